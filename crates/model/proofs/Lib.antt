@@ -1,0 +1,16 @@
+pub mod WellFormed
+pub mod Lists
+pub mod Walking
+pub mod Registers
+pub mod Playing
+pub mod Marking
+pub mod WholePlan
+pub mod Played
+pub mod Validity
+pub mod Filling
+pub mod Search
+pub mod SearchKey
+pub mod LineForms
+pub mod Reading
+pub mod Accepted
+pub mod Drawn

@@ -1,0 +1,14 @@
+//! Networks and plans made from a seed. The same seed gives the same texts.
+
+pub mod base;
+pub mod cases;
+pub mod damage;
+pub mod draft;
+pub mod faults;
+pub mod large;
+pub mod maze;
+pub mod plan_damage;
+pub mod plans;
+pub mod random;
+pub mod sib;
+pub mod tiny;

@@ -1,0 +1,29 @@
+//! Document 01, "A marker and planner for scan network plans", in plain Rust.
+//!
+//! The four programs are `programs::{read, plan, mark, clock}`. The library calls under them are
+//! `reader::read_network`, `planner::make_plan`, `marker::mark` and `clocks::write_clocks`.
+//! `frame` and `play` are the test frame, `brute` searches without cleverness, and `generate`
+//! makes networks and plans from a seed.
+//!
+//! A comment in quotation marks is a sentence of document 01.
+
+#![forbid(unsafe_code)]
+
+pub mod brute;
+pub mod clocks;
+pub mod controller;
+pub mod frame;
+pub mod generate;
+pub mod limits;
+pub mod marker;
+pub mod network;
+pub mod network_line;
+pub mod path;
+pub mod plan_text;
+pub mod planner;
+pub mod play;
+pub mod programs;
+pub mod reader;
+pub mod refusal;
+pub mod steering;
+pub mod text;

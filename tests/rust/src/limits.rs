@@ -1,0 +1,30 @@
+//! "Limits: 128 nodes, 4,000 segment bits in all, 4 targets, 16,384 bytes of text. Plans: 16
+//! operations, 64,080 bytes. Planner: 6 distinct steering bits."
+
+/// "128 nodes"
+pub const MAX_NODES: usize = 128;
+
+/// "a segment of 1 to 32 bits"
+pub const MAX_SEGMENT_BITS: usize = 32;
+
+/// "4,000 segment bits in all"
+pub const MAX_NETWORK_BITS: usize = 4_000;
+
+/// "4 targets"
+pub const MAX_TARGETS: usize = 4;
+
+/// "16,384 bytes of text"
+pub const MAX_NETWORK_BYTES: usize = 16_384;
+
+/// "16 operations"
+pub const MAX_OPERATIONS: usize = 16;
+
+/// "64,080 bytes"
+pub const MAX_PLAN_BYTES: usize = 64_080;
+
+/// "6 distinct steering bits"
+pub const MAX_STEERING_BITS: usize = 6;
+
+/// "11,664 search entries": one for each setting of the steering bits (each 0, 1 or X) with each
+/// set of targets reached.
+pub const SEARCH_ENTRIES: usize = 11_664;

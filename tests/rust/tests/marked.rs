@@ -1,0 +1,97 @@
+//! Marks of plans of all kinds hold on the test frame.
+
+mod common;
+
+use common::accepted;
+use penthluk_reference::clocks::write_clocks;
+use penthluk_reference::controller::State;
+use penthluk_reference::generate::cases::{draw_network, draw_plan};
+use penthluk_reference::generate::random::Random;
+use penthluk_reference::generate::tiny::tiny;
+use penthluk_reference::limits::MAX_PLAN_BYTES;
+use penthluk_reference::marker::mark;
+use penthluk_reference::network::Network;
+use penthluk_reference::plan_text::write_plan;
+use penthluk_reference::play::{check_pass, play};
+use penthluk_reference::refusal::{BIT_COUNT, CONFIGURATION, TARGET};
+
+/// How often each verdict came.
+#[derive(Default, Debug)]
+struct Verdicts {
+    passes: usize,
+    passes_with_targets: usize,
+    passes_with_operations: usize,
+    bit_count: usize,
+    configuration: usize,
+    target: usize,
+}
+
+/// Marks many plans; plays those that pass, and those that end in a configuration that is not
+/// valid.
+fn check_marks(seed: u64, cases: usize, draw: fn(&mut Random) -> Vec<u8>) -> Verdicts {
+    let random = &mut Random::new(seed);
+    let mut verdicts = Verdicts::default();
+    for _ in 0..cases {
+        let (text, network) = accepted(random, draw);
+        let operations = draw_plan(random, &network);
+        let plan = write_plan(&operations);
+        match mark(&text, &plan) {
+            Ok(pass) => {
+                let played = check_pass(&network, &plan, &pass, &mut || random.bit());
+                assert_eq!(played, Ok(()), "{}", String::from_utf8_lossy(&text));
+                verdicts.passes += 1;
+                verdicts.passes_with_targets += usize::from(!network.targets.is_empty());
+                verdicts.passes_with_operations += usize::from(!operations.is_empty());
+            }
+            Err(refusal) => match refusal.number {
+                BIT_COUNT => verdicts.bit_count += 1,
+                TARGET => verdicts.target += 1,
+                CONFIGURATION => {
+                    let upto = refusal.place as usize;
+                    assert!(some_setting_is_invalid(&network, &operations[..upto], random));
+                    verdicts.configuration += 1;
+                }
+                _ => panic!("{refusal:?}"),
+            },
+        }
+    }
+    verdicts
+}
+
+/// Whether one of the ways to fill the unknown bits leads to a setting that is not valid. An
+/// unknown address bit may happen to be filled well.
+fn some_setting_is_invalid(
+    network: &Network,
+    operations: &[Vec<bool>],
+    random: &mut Random,
+) -> bool {
+    let plan = write_plan(operations);
+    let (mut tms, mut tdi) = (vec![0; MAX_PLAN_BYTES], vec![0; MAX_PLAN_BYTES]);
+    let clocks = write_clocks(&plan, &mut tms, &mut tdi).expect("the plan is of good form");
+    let unknown = network.start.iter().flatten().any(|bit| bit.is_none());
+    let played = play(network, &tms[..clocks], &tdi[..clocks], &mut || random.bit());
+    assert_eq!(played.last_state, State::RunTestIdle);
+    unknown || !played.always_valid
+}
+
+#[test]
+fn tiny_networks() {
+    let verdicts = check_marks(201, 20_000, |random| tiny(random, 8).text());
+    assert!(verdicts.passes > 8_000, "{verdicts:?}");
+    assert!(verdicts.passes_with_targets > 3_000, "{verdicts:?}");
+    assert!(verdicts.passes_with_operations > 5_000, "{verdicts:?}");
+    assert!(verdicts.bit_count > 300, "{verdicts:?}");
+    assert!(verdicts.configuration > 300, "{verdicts:?}");
+    assert!(verdicts.target > 1_000, "{verdicts:?}");
+}
+
+#[test]
+fn networks_of_all_kinds() {
+    let verdicts = check_marks(202, 4_000, |random| draw_network(random).text());
+    assert!(verdicts.passes > 1_000, "{verdicts:?}");
+    assert!(verdicts.passes_with_targets > 500, "{verdicts:?}");
+    assert!(verdicts.passes_with_operations > 800, "{verdicts:?}");
+    assert!(verdicts.bit_count > 100, "{verdicts:?}");
+    assert!(verdicts.configuration > 50, "{verdicts:?}");
+    assert!(verdicts.target > 200, "{verdicts:?}");
+}

@@ -1,0 +1,72 @@
+//! The planner's plans pass the marker and bear out on the test frame what the pass says.
+
+mod common;
+
+use common::{accepted, plan_text};
+use penthluk_reference::generate::cases::draw_network;
+use penthluk_reference::generate::large::{full, large};
+use penthluk_reference::generate::maze::gray;
+use penthluk_reference::generate::random::Random;
+use penthluk_reference::limits::MAX_OPERATIONS;
+use penthluk_reference::marker::{mark, Pass};
+use penthluk_reference::play::check_pass;
+use penthluk_reference::reader::read_network;
+use penthluk_reference::refusal::{NO_PLAN, STEERING_COUNT};
+
+/// Marks and plays the planner's plan, with several draws of all free bits.
+fn check_planned(network_text: &[u8], random: &mut Random) -> Option<Pass> {
+    let plan = match plan_text(network_text) {
+        Ok(plan) => plan,
+        Err(refusal) => {
+            assert!([STEERING_COUNT, NO_PLAN].contains(&refusal.number), "{refusal:?}");
+            return None;
+        }
+    };
+    let pass = mark(network_text, &plan).expect("the planner's plan passes");
+    let network = read_network(network_text).expect("the planner read it");
+    assert_eq!(pass.clocks, plan.len());
+    for _ in 0..3 {
+        let played = check_pass(&network, &plan, &pass, &mut || random.bit());
+        played.unwrap_or_else(|error| panic!("{error}: {}", String::from_utf8_lossy(network_text)));
+    }
+    Some(pass)
+}
+
+#[test]
+fn drawn_networks() {
+    let random = &mut Random::new(101);
+    let mut plans_of_length = [0; MAX_OPERATIONS + 1];
+    let mut gots = 0;
+    for _ in 0..6_000 {
+        let (text, _) = accepted(random, |random| draw_network(random).text());
+        if let Some(pass) = check_planned(&text, random) {
+            plans_of_length[pass.operations] += 1;
+            gots += pass.gots.len();
+        }
+    }
+    assert!(plans_of_length.iter().all(|&count| count > 0), "{plans_of_length:?}");
+    assert!(plans_of_length[2] > 500 && plans_of_length[3] > 100, "{plans_of_length:?}");
+    assert!(gots > 2_000, "{gots}");
+}
+
+#[test]
+fn large_networks() {
+    let random = &mut Random::new(102);
+    let mut passes = 0;
+    for _ in 0..60 {
+        let (text, _) = accepted(random, |random| large(random).text());
+        passes += usize::from(check_planned(&text, random).is_some());
+    }
+    assert!(passes > 20, "{passes}");
+    assert!(check_planned(&full().text(), random).is_some());
+}
+
+#[test]
+fn every_count_of_operations() {
+    let random = &mut Random::new(103);
+    for operations in 1..=MAX_OPERATIONS {
+        let text = gray(4, operations, &[3, 32], Some("10110")).text();
+        let pass = check_planned(&text, random).expect("there is a plan");
+        assert_eq!(pass.operations, operations);
+    }
+}
