@@ -13,4 +13,12 @@ pub mod SearchKey
 pub mod LineForms
 pub mod Reading
 pub mod Accepted
+pub mod PlanTexts
+pub mod PathBound
+pub mod Refusals
+pub mod CallCases
+pub mod LentBuffers
+pub mod MarkerDemand
+pub mod PlannerDemand
+pub mod Demands
 pub mod Drawn

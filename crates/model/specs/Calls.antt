@@ -63,12 +63,14 @@ writeClocks p tms tdi =
 unfoldable pub searchEntries : ℕ
 searchEntries = 11664
 
--- the network, past the checks that come before the search, for a search space of this length
-unfoldable pub searchable : Bytes → ℕ → Result Network
-searchable n search =
-    andThen (readNetwork n) (λ net.
+-- the checks that come before the search, for a search space of this length
+abbrev pub checked : ℕ → Network → Result Network
+checked search net =
     refuseIf (ltb 6 (length (steeringBits (net .nodes)))) 10 (length (steeringBits (net .nodes)))
-    (refuseIf (ltb search searchEntries) 12 searchEntries (ok net)))
+    (refuseIf (ltb search searchEntries) 12 searchEntries (ok net))
+
+unfoldable pub searchable : Bytes → ℕ → Result Network
+searchable n search = andThen (readNetwork n) (checked search)
 
 abbrev pub found : Option Plan → Result Plan
 found none = refused 11 0

@@ -12,3 +12,4 @@ pub mod plans;
 pub mod random;
 pub mod sib;
 pub mod tiny;
+pub mod unknown;

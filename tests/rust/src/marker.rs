@@ -48,7 +48,7 @@ pub fn mark_plan(network: &Network, operations: &[Vec<bool>]) -> Result<Pass, Re
         if !is_valid(network, &configuration) {
             return Err(Refusal::new(CONFIGURATION, index + 1));
         }
-        clocks += operation_clocks(bits).len();
+        clocks += operation_clocks(bits).count();
     }
     let gots = judge_targets(network, &configuration, &accesses)?;
     Ok(Pass { operations: operations.len(), clocks, gots })

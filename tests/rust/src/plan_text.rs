@@ -33,13 +33,9 @@ fn bits_field(line: Line<'_>) -> Option<&[u8]> {
 
 /// The operations of a plan text, the bit that is shifted first at index 0.
 pub fn parse_plan(text: &[u8]) -> Result<Vec<Vec<bool>>, Refusal> {
-    let operations = plan_lines(text)?;
-    Ok(operations.into_iter().map(operation_bits).collect())
-}
-
-/// The bits of a bits field of good form.
-pub fn operation_bits(field: &[u8]) -> Vec<bool> {
-    field.iter().map(|&byte| byte == b'1').collect()
+    let fields = plan_lines(text)?;
+    let bits = |field: &[u8]| field.iter().map(|&byte| byte == b'1').collect();
+    Ok(fields.into_iter().map(bits).collect())
 }
 
 /// The plan text of these operations.

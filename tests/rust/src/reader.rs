@@ -161,14 +161,16 @@ fn same_entry(earlier: &Target, target: &Target) -> bool {
 /// "Steering segments start as all 0 and others as all X (001, section 7.1) unless a `hold` says
 /// otherwise."
 fn start_configuration(nodes: &[Node], holds: Vec<(usize, Vec<Bit>)>) -> Configuration {
-    let unheld = |(index, node): (usize, &Node)| match node {
-        Node::Segment { len, .. } if is_steering_segment(nodes, index + 1) => {
-            vec![Some(false); *len]
-        }
+    let unknown = |node: &Node| match node {
         Node::Segment { len, .. } => vec![None; *len],
         Node::Multiplexer { .. } => Vec::new(),
     };
-    let mut start: Configuration = nodes.iter().enumerate().map(unheld).collect();
+    let mut start: Configuration = nodes.iter().map(unknown).collect();
+    for node in nodes {
+        if let Node::Multiplexer { seg, .. } = node {
+            start[seg - 1].fill(Some(false));
+        }
+    }
     for (segment, bits) in holds {
         start[segment - 1] = bits;
     }

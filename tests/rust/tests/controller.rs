@@ -45,7 +45,8 @@ fn five_ones_reset() {
 #[test]
 fn states_of_an_operation() {
     for n in 0..40 {
-        let clocks = operation_clocks(&vec![true; n]);
+        let bits = vec![true; n];
+        let clocks: Vec<Clock> = operation_clocks(&bits).collect();
         assert_eq!(clocks.len(), n + 5);
         let mut state = State::RunTestIdle;
         let mut states = Vec::new();

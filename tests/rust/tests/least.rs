@@ -5,13 +5,15 @@ mod common;
 
 use common::{accepted, plan_text};
 use penthluk_reference::brute::{first_filled_plan, least_operations};
-use penthluk_reference::generate::maze::{gray, maze};
+use penthluk_reference::generate::maze::{gray, maze, GrayWalk};
 use penthluk_reference::generate::random::Random;
 use penthluk_reference::generate::sib::{sib_chain, sib_tree, Size};
 use penthluk_reference::generate::tiny::tiny;
+use penthluk_reference::generate::unknown::make_unknown;
 use penthluk_reference::limits::{MAX_OPERATIONS, MAX_STEERING_BITS};
 use penthluk_reference::network::Network;
 use penthluk_reference::plan_text::write_plan;
+use penthluk_reference::reader::read_network;
 use penthluk_reference::refusal::{Refusal, NO_PLAN};
 use penthluk_reference::steering::steering_bits;
 
@@ -36,47 +38,60 @@ fn is_small(network: &Network) -> bool {
     network.bits() <= MOST_BITS && steering_bits(&network.nodes).len() <= MAX_STEERING_BITS
 }
 
-/// How many networks had each least number, and how many had no plan.
-fn compare_many(
-    seed: u64,
-    networks: usize,
-    draw: impl Fn(&mut Random) -> Vec<u8>,
-) -> ([usize; MAX_OPERATIONS + 1], usize) {
+/// What came of many comparisons.
+#[derive(Default, Debug)]
+struct Tally {
+    /// How many networks had each least number.
+    least: [usize; MAX_OPERATIONS + 1],
+    /// How many had no plan.
+    none: usize,
+    /// How many with a plan of some operations started with an unknown steering bit.
+    unknown_steering: usize,
+}
+
+fn compare_many(seed: u64, networks: usize, draw: impl Fn(&mut Random) -> Vec<u8>) -> Tally {
     let random = &mut Random::new(seed);
-    let (mut least, mut none, mut compared) = ([0; MAX_OPERATIONS + 1], 0, 0);
+    let mut tally = Tally::default();
+    let mut compared = 0;
     while compared < networks {
         let (text, network) = accepted(random, &draw);
-        if is_small(&network) {
-            match compare(&text, &network) {
-                Some(operations) => least[operations] += 1,
-                None => none += 1,
+        if !is_small(&network) {
+            continue;
+        }
+        compared += 1;
+        let steering = steering_bits(&network.nodes);
+        let unknown = steering.iter().any(|&(seg, bit)| network.start[seg - 1][bit].is_none());
+        match compare(&text, &network) {
+            Some(operations) => {
+                tally.least[operations] += 1;
+                tally.unknown_steering += usize::from(unknown && operations > 0);
             }
-            compared += 1;
+            None => tally.none += 1,
         }
     }
-    (least, none)
+    tally
 }
 
 #[test]
 fn tiny_networks() {
-    let (least, none) = compare_many(301, 6_000, |random| tiny(random, 7).text());
-    assert!(least[..4].iter().all(|&count| count > 100), "{least:?}");
-    assert!(none > 300, "{none}");
+    let tally = compare_many(301, 60_000, |random| tiny(random, 7).text());
+    assert!(tally.least[..4].iter().all(|&count| count > 100), "{tally:?}");
+    assert!(tally.none > 3_000, "{tally:?}");
 }
 
 #[test]
 fn mazes() {
-    let (least, none) = compare_many(302, 3_000, |random| {
+    let tally = compare_many(302, 40_000, |random| {
         let depth = random.between(1, 4);
         maze(random, depth, 2).text()
     });
-    assert!(least[..6].iter().all(|&count| count > 10), "{least:?}");
-    assert!(none > 100, "{none}");
+    assert!(tally.least[..7].iter().all(|&count| count > 20), "{tally:?}");
+    assert!(tally.none > 3_000, "{tally:?}");
 }
 
 #[test]
 fn sib_networks() {
-    let (least, none) = compare_many(303, 1_000, |random| {
+    let tally = compare_many(303, 6_000, |random| {
         let size = Size { depth: 4, sibs: random.between(1, 4), len: 2 };
         if random.bit() {
             sib_chain(random, size).text()
@@ -84,8 +99,19 @@ fn sib_networks() {
             sib_tree(random, size).text()
         }
     });
-    assert!(least[..5].iter().all(|&count| count > 10), "{least:?}");
-    assert!(none > 10, "{none}");
+    assert!(tally.least[..6].iter().all(|&count| count > 20), "{tally:?}");
+    assert!(tally.none > 10, "{tally:?}");
+}
+
+#[test]
+fn networks_with_unknown_steering_bits() {
+    let tally = compare_many(304, 40_000, |random| {
+        let mut draft = if random.bit() { tiny(random, 8) } else { maze(random, 3, 1) };
+        make_unknown(random, &mut draft);
+        draft.text()
+    });
+    assert!(tally.unknown_steering > 1_000, "{tally:?}");
+    assert!(tally.least[..5].iter().all(|&count| count > 20), "{tally:?}");
 }
 
 /// Every least number from 1 to 16, and 17, which is refused.
@@ -93,10 +119,23 @@ fn sib_networks() {
 fn gray_walks() {
     for operations in 1..=MAX_OPERATIONS + 1 {
         for write in [None, Some("1"), Some("01")] {
-            let text = gray(5, operations, &[], write).text();
-            let network = penthluk_reference::reader::read_network(&text).expect("it is sound");
+            let text = gray(operations, write, &[]).text();
+            let network = read_network(&text).expect("it is sound");
             let least = compare(&text, &network);
             assert_eq!(least, (operations <= MAX_OPERATIONS).then_some(operations));
         }
+    }
+}
+
+/// The same with three more targets on the way.
+#[test]
+fn gray_walks_with_stops() {
+    for operations in 5..=MAX_OPERATIONS + 1 {
+        let stops = [0, operations / 2, operations - 2];
+        let walk = GrayWalk { bits: 5, operations, write: Some("1"), stops: &stops, always: &[] };
+        let text = walk.draft().text();
+        let network = read_network(&text).expect("it is sound");
+        let least = compare(&text, &network);
+        assert_eq!(least, (operations <= MAX_OPERATIONS).then_some(operations));
     }
 }

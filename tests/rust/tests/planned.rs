@@ -65,7 +65,7 @@ fn large_networks() {
 fn every_count_of_operations() {
     let random = &mut Random::new(103);
     for operations in 1..=MAX_OPERATIONS {
-        let text = gray(4, operations, &[3, 32], Some("10110")).text();
+        let text = gray(operations, Some("10110"), &[3, 32]).text();
         let pass = check_planned(&text, random).expect("there is a plan");
         assert_eq!(pass.operations, operations);
     }

@@ -11,6 +11,7 @@ use super::plans::{lengthened, mutated, planned, unfilled, wander};
 use super::random::Random;
 use super::sib::{sib_chain, sib_tree, Size};
 use super::tiny::tiny;
+use super::unknown::make_unknown;
 use crate::limits::{
     MAX_NETWORK_BITS, MAX_NODES, MAX_OPERATIONS, MAX_PLAN_BYTES, MAX_SEGMENT_BITS, SEARCH_ENTRIES,
 };
@@ -63,6 +64,14 @@ pub fn draw_network_text(random: &mut Random) -> Vec<u8> {
 
 /// A network of good form; it may still be refused with 9.
 pub fn draw_network(random: &mut Random) -> Draft {
+    let mut draft = draw_known_network(random);
+    if random.percent(20) {
+        make_unknown(random, &mut draft);
+    }
+    draft
+}
+
+fn draw_known_network(random: &mut Random) -> Draft {
     let size = Size { depth: 3, sibs: random.between(1, 7), len: random.between(1, 32) };
     match random.below(20) {
         0..=5 => tiny(random, 7),
@@ -73,7 +82,7 @@ pub fn draw_network(random: &mut Random) -> Draft {
             let (depth, len) = (random.between(1, 4), random.between(1, 6));
             maze(random, depth, len)
         }
-        17 => gray(5, random.between(1, 20), &[random.between(1, 32)], Some("1001")),
+        17 => gray(random.between(1, 20), Some("1001"), &[random.between(1, 32)]),
         18 => large(random),
         _ => match random.below(4) {
             0 => full(),

@@ -62,11 +62,12 @@ pub fn large(random: &mut Random) -> Draft {
         if random.percent(60) && bits_left > 0 {
             let len = random.between(1, bits_left.min(MAX_SEGMENT_BITS));
             bits_left -= len;
-            let from = near(random, last);
+            let from = if random.percent(95) { last } else { near(random, last) };
             draft.segment(from, len, random.percent(60));
         } else {
             let count = *random.pick(&[2, 2, 3, 4]);
-            let inputs = (0..count).map(|_| near(random, last)).collect();
+            let mut inputs: Vec<usize> = (0..count).map(|_| near(random, last)).collect();
+            inputs[random.below(count)] = last;
             let (seg, bit) = *random.pick(&steering);
             draft.multiplexer(seg, if count == 2 { bit } else { 0 }, inputs);
         }
@@ -77,11 +78,11 @@ pub fn large(random: &mut Random) -> Draft {
     draft
 }
 
-/// Up to 4 steering segments in a row; gives the addresses that multiplexers may take.
+/// Up to 4 steering segments in a row; gives the addresses that multiplexers may take, up to 8.
 fn draw_steering(random: &mut Random, draft: &mut Draft) -> Vec<(usize, usize)> {
     let mut from = 0;
     let mut addresses = Vec::new();
-    for _ in 0..random.between(1, 4) {
+    for _ in 0..*random.pick(&[1, 2, 2, 3, 3, 3, 4]) {
         from = draft.segment(from, random.between(2, MAX_SEGMENT_BITS), true);
         addresses.extend([(from, 0), (from, 1)]);
     }
@@ -90,9 +91,8 @@ fn draw_steering(random: &mut Random, draft: &mut Draft) -> Vec<(usize, usize)> 
 
 /// A number from 0 to `last`, most often close to `last`.
 fn near(random: &mut Random, last: usize) -> usize {
-    match random.below(20) {
+    match random.below(100) {
         0 => random.below(last + 1),
-        1..=4 => last - random.below(last.min(8) + 1),
-        _ => last,
+        _ => last - random.below(last.min(8) + 1),
     }
 }

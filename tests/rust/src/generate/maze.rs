@@ -33,36 +33,58 @@ fn tree(
     draft.multiplexer(level.seg, level.bit, inputs)
 }
 
-/// A network whose one target needs exactly `operations` operations, from 1 to 2^`bits`.
+/// A network whose targets need exactly `operations` operations, from 1 to 2^`bits`.
 ///
 /// Each steering bit is a segment of its own. Their values, read as a Gray code, number the
-/// leaves; the leaf of a number has only that segment on the path whose bit leads to the next
-/// number. So one operation goes at most one number on, and the target's segment is at number
-/// `operations` - 1. It is written if there are bits to `write`, else read. Plain segments of the
-/// lengths in `always` are on every path.
-pub fn gray(bits: usize, operations: usize, always: &[usize], write: Option<&str>) -> Draft {
-    let mut draft = Draft::default();
-    let last = draft.segment(0, write.map_or(1, str::len), true);
-    let levels: Vec<Level> =
-        (0..bits).map(|_| Level { seg: draft.segment(0, 1, true), bit: 0, inputs: 2 }).collect();
-    let steering: Vec<usize> = levels.iter().map(|level| level.seg).collect();
-    let mut leaf = |chosen: &[usize]| {
-        (chosen.len() == bits).then(|| {
+/// leaves; the leaf of a number has that segment on the path whose bit leads to the next number,
+/// and no other that steers. So one operation goes at most one number on, and the last target's
+/// segment is at number `operations` - 1.
+pub struct GrayWalk<'w> {
+    pub bits: usize,
+    pub operations: usize,
+    /// The bits to write into the last target; without any, it is read.
+    pub write: Option<&'w str>,
+    /// Lower numbers at which one more segment is to be read.
+    pub stops: &'w [usize],
+    /// Lengths of plain segments that are on every path.
+    pub always: &'w [usize],
+}
+
+impl GrayWalk<'_> {
+    pub fn draft(&self) -> Draft {
+        let mut draft = Draft::default();
+        let last = draft.segment(0, self.write.map_or(1, str::len), true);
+        let levels: Vec<Level> = (0..self.bits)
+            .map(|_| Level { seg: draft.segment(0, 1, true), bit: 0, inputs: 2 })
+            .collect();
+        let onward = |number: usize| levels[(number + 1).trailing_zeros() as usize].seg;
+        let stops: Vec<usize> =
+            self.stops.iter().map(|&number| draft.segment(onward(number), 1, true)).collect();
+        let mut leaf = |chosen: &[usize]| {
             let number = gray_number(chosen);
-            if number + 1 < operations {
-                steering[(number + 1).trailing_zeros() as usize]
-            } else {
-                last
-            }
-        })
-    };
-    let root = tree(&mut draft, &levels, &mut Vec::new(), &mut leaf);
-    draft.out = always.iter().fold(root, |from, &len| draft.segment(from, len, false));
-    draft.entries.push(match write {
-        Some(bits) => Entry::Write { segment: last, bits: bits.to_string() },
-        None => Entry::Read { segment: last },
-    });
-    draft
+            let stop = self.stops.iter().position(|&stop| stop == number);
+            (chosen.len() == self.bits).then(|| match stop {
+                Some(index) => stops[index],
+                None if number + 1 < self.operations => onward(number),
+                None => last,
+            })
+        };
+        let root = tree(&mut draft, &levels, &mut Vec::new(), &mut leaf);
+        draft.out = self.always.iter().fold(root, |from, &len| draft.segment(from, len, false));
+        draft.entries.extend(stops.into_iter().map(|segment| Entry::Read { segment }));
+        draft.entries.push(match self.write {
+            Some(bits) => Entry::Write { segment: last, bits: bits.to_string() },
+            None => Entry::Read { segment: last },
+        });
+        draft
+    }
+}
+
+/// A network whose one target, with bits to write or else to read, needs exactly so many
+/// operations, at most 64.
+pub fn gray(operations: usize, write: Option<&str>, always: &[usize]) -> Draft {
+    let bits = operations.next_power_of_two().trailing_zeros().max(1) as usize;
+    GrayWalk { bits, operations, write, stops: &[], always }.draft()
 }
 
 /// The number whose Gray code has these bits, bit 0 first.
@@ -110,7 +132,7 @@ fn draw_level(random: &mut Random, draft: &mut Draft) -> Level {
 
 /// Scan-in, or now and then a segment that is on the path with the new one.
 fn draw_from(random: &mut Random, draft: &Draft) -> usize {
-    if random.percent(25) {
+    if random.percent(40) {
         random.below(draft.nodes.len() + 1)
     } else {
         0

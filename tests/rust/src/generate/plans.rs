@@ -16,8 +16,8 @@ pub fn planned(network: &Network) -> Option<Vec<Vec<bool>>> {
     parse_plan(&plan[..bytes]).ok()
 }
 
-/// Operations drawn at random, up to this many. They keep the configuration valid where a few
-/// draws find a way, and shift the bits of write targets with the given chance.
+/// Operations drawn at random, up to this many. Most keep the configuration valid where a few
+/// draws find a way. They shift the bits of write targets with the given chance.
 pub fn wander(
     random: &mut Random,
     network: &Network,
@@ -39,7 +39,8 @@ fn wander_from(
         let Ok(path) = walk(network, &configuration) else { break };
         let mut bits = Vec::new();
         let mut next = configuration.clone();
-        for _ in 0..6 {
+        let draws = if random.percent(30) { 1 } else { 6 };
+        for _ in 0..draws {
             bits = draw_bits(random, network, &path, percent);
             csu(network, &mut next, &path, &bits);
             if is_valid(network, &next) {
@@ -121,7 +122,7 @@ pub fn mutated(random: &mut Random, plan: &[Vec<bool>]) -> Vec<Vec<bool>> {
     match random.below(6) {
         0 if bits > 0 => plan[index][random.below(bits)] ^= true,
         1 => drop(plan.remove(index)),
-        2 => plan.insert(index, plan[index].clone()),
+        2 if plan.len() < MAX_OPERATIONS => plan.insert(index, plan[index].clone()),
         3 => plan[index].clear(),
         4 => plan[index].push(random.bit()),
         _ => drop(plan[index].pop()),

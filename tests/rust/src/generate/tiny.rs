@@ -4,13 +4,13 @@ use super::draft::Draft;
 use super::random::Random;
 use crate::network::Node;
 
-/// A tiny network of at most `bits` segment bits and 10 nodes.
+/// A tiny network of at most `bits` segment bits and 12 nodes.
 pub fn tiny(random: &mut Random, bits: usize) -> Draft {
     let mut draft = Draft::default();
     let mut bits_left = bits;
-    for _ in 0..random.between(1, 10) {
+    for _ in 0..random.between(1, 12) {
         if bits_left > 0 && (draft.nodes.is_empty() || random.percent(50)) {
-            let len = random.between(1, bits_left.min(3));
+            let len = *random.pick(&[1, 1, 1, 2, 2, 3]).min(&bits_left);
             bits_left -= len;
             let from = earlier(random, draft.nodes.len());
             draft.segment(from, len, random.percent(80));
@@ -23,7 +23,7 @@ pub fn tiny(random: &mut Random, bits: usize) -> Draft {
     give_addresses(random, &mut draft);
     let last = draft.nodes.len();
     draft.out = if random.percent(80) { last } else { random.below(last + 1) };
-    let target_percent = *random.pick(&[20, 40, 70]);
+    let target_percent = *random.pick(&[20, 50, 90]);
     draft.draw_targets(random, target_percent);
     draft.draw_holds(random, 15);
     draft

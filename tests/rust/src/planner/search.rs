@@ -26,24 +26,6 @@ fn reached(state: u16) -> u8 {
     (state % 16) as u8
 }
 
-/// Calls `stop` with every state that one operation leads to, until it returns true.
-fn any_next(settings: &mut Settings, state: u16, mut stop: impl FnMut(u16) -> bool) -> bool {
-    let view = settings.view(state / 16);
-    let reached = reached(state) | view.targets;
-    let mut ones = view.steering;
-    loop {
-        let next = settings.after(&view, ones);
-        if settings.view(next).valid && stop(state_of(next, reached)) {
-            return true;
-        }
-        if ones == 0 {
-            return false;
-        }
-        // The next smaller subset of the steering bits on the path.
-        ones = (ones - 1) & view.steering;
-    }
-}
-
 /// Meets states in the order of their least count of operations, up to the first count that has a
 /// state with all targets reached. Gives the states met.
 fn spread(settings: &mut Settings, entries: &mut [u16]) -> Option<Vec<u16>> {
@@ -52,23 +34,21 @@ fn spread(settings: &mut Settings, entries: &mut [u16]) -> Option<Vec<u16>> {
     met.push(first);
     entries[usize::from(first)] = 1;
     let mut from = 0;
-    for operations in 0..=MAX_OPERATIONS {
+    for operations in 0..=MAX_OPERATIONS as u16 {
         let to = met.len();
         if met[from..to].iter().any(|&state| reached(state) == settings.all_targets) {
             return Some(met);
         }
-        if operations == MAX_OPERATIONS {
-            break;
-        }
         for index in from..to {
-            any_next(settings, met[index], |next| {
-                let entry = &mut entries[usize::from(next)];
-                if *entry == 0 {
-                    *entry = operations as u16 + 2;
+            let view = settings.view(met[index] / 16);
+            let reached = reached(met[index]) | view.targets;
+            for setting in view.next_settings() {
+                let next = state_of(setting, reached);
+                if entries[usize::from(next)] == 0 && settings.view(setting).valid {
+                    entries[usize::from(next)] = operations + 2;
                     met.push(next);
                 }
-                false
-            });
+            }
         }
         from = to;
     }
@@ -84,8 +64,10 @@ fn mark_useful(settings: &mut Settings, entries: &mut [u16], met: &[u16]) {
         let useful = if entry == last {
             reached(state) == settings.all_targets
         } else {
-            let after = USEFUL | (entry + 1);
-            any_next(settings, state, |next| entries[usize::from(next)] == after)
+            let view = settings.view(state / 16);
+            let reached = reached(state) | view.targets;
+            let mut next = view.next_settings().map(|setting| state_of(setting, reached));
+            next.any(|next| entries[usize::from(next)] == USEFUL | (entry + 1))
         };
         if useful {
             entries[usize::from(state)] = USEFUL | entry;
@@ -105,7 +87,7 @@ fn trace(settings: &mut Settings, entries: &[u16]) -> Vec<u16> {
         let order = settings.steering_in_place_order(setting);
         let after = entries[usize::from(state)] + 1;
         let next = (0..1u8 << order.len())
-            .map(|value| settings.after(&view, ones_in_order(value, &order)))
+            .map(|value| view.after(ones_in_order(value, &order)))
             .find(|&next| entries[usize::from(state_of(next, reached))] == after)
             .expect("a useful state leads to a useful state");
         passed.push(next);

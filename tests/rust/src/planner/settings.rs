@@ -13,6 +13,9 @@ const SETTINGS: usize = 729;
 /// The weight of each digit.
 const WEIGHTS: [u16; MAX_STEERING_BITS] = [1, 3, 9, 27, 81, 243];
 
+/// The sum of the weights of each set of steering bits.
+const WEIGHT_SUMS: [u16; 1 << MAX_STEERING_BITS] = weight_sums();
+
 type Digits = [u8; MAX_STEERING_BITS];
 
 /// What an operation can do under a setting. Sets of steering bits and of targets are masks.
@@ -28,6 +31,25 @@ pub struct View {
     /// The setting with 0 for each steering bit on the path.
     pub others: u16,
     pub length: u16,
+}
+
+impl View {
+    /// The setting after an operation that loads 1 into the steering bits of `ones` and 0 into
+    /// the others on the path.
+    pub fn after(&self, ones: u8) -> u16 {
+        self.others + WEIGHT_SUMS[usize::from(ones)]
+    }
+
+    /// The settings after every operation, valid or not: one for each set of steering bits on the
+    /// path.
+    pub fn next_settings(self) -> impl Iterator<Item = u16> {
+        let mut ones = Some(self.steering);
+        std::iter::from_fn(move || {
+            let now = ones?;
+            ones = now.checked_sub(1).map(|below| below & self.steering);
+            Some(self.after(now))
+        })
+    }
 }
 
 /// A node with all that the walk over settings needs.
@@ -54,8 +76,6 @@ pub struct Settings {
     /// The mask of all targets.
     pub all_targets: u8,
     views: [View; SETTINGS],
-    /// The sum of the weights of each set of steering bits.
-    sums: [u16; 64],
 }
 
 impl Settings {
@@ -69,7 +89,6 @@ impl Settings {
             start,
             all_targets: ((1u16 << network.targets.len()) - 1) as u8,
             views: [View::default(); SETTINGS],
-            sums: weight_sums(),
         };
         settings.view(start);
         settings
@@ -94,12 +113,6 @@ impl Settings {
         view.others = setting - on_path.map(|n| u16::from(digits[n]) * WEIGHTS[n]).sum::<u16>();
         self.views[usize::from(setting)] = view;
         view
-    }
-
-    /// The setting after an operation under `view` that loads 1 into the steering bits of `ones`
-    /// and 0 into the others on the path.
-    pub fn after(&self, view: &View, ones: u8) -> u16 {
-        view.others + self.sums[usize::from(ones)]
     }
 
     /// The path length of a setting whose view was taken before.
@@ -164,10 +177,13 @@ fn digits(setting: u16) -> Digits {
     })
 }
 
-fn weight_sums() -> [u16; 64] {
-    let mut sums = [0; 64];
-    for (set, sum) in sums.iter_mut().enumerate() {
-        *sum = (0..MAX_STEERING_BITS).map(|n| (set >> n & 1) as u16 * WEIGHTS[n]).sum();
+const fn weight_sums() -> [u16; 1 << MAX_STEERING_BITS] {
+    let mut sums = [0; 1 << MAX_STEERING_BITS];
+    let mut set = 1;
+    while set < sums.len() {
+        // The set without its lowest member, and that member's weight.
+        sums[set] = sums[set & (set - 1)] + WEIGHTS[set.trailing_zeros() as usize];
+        set += 1;
     }
     sums
 }
