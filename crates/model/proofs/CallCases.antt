@@ -21,7 +21,20 @@ use Rattle.model.specs.Printed.{number}
 use Rattle.model.specs.Result.{Result, ok, refused, refuseIf, andThen}
 use Rattle.model.specs.Tap.{Clock, bitByte}
 use Rattle.model.specs.Text.{Bytes}
-use Rattle.model.proofs.Lists.{ok-is, handed, passed-test}
+use Rattle.model.proofs.Lists.{not-ok, ok-is, handed}
+
+-- ---- a lent buffer with and without room
+
+pub data Room {A : Type 0} (room : ℕ) (new : List A) : Result (List A) → Type 0 where
+  short : room < length new → Room room new (refused 13 (length new))
+  enough-room : length new ≤ room → Room room new (ok new)
+
+pub room-case : {A : Type 0} (room : ℕ) (new : List A) → Room room new (ifRoom room new)
+room-case room new = go _ refl
+  where
+    go : (t : Bool) → ltb room (length new) ≡ t → Room room new (refuseIf t 13 (length new) (ok new))
+    go true e = short (ltb-true room (length new) e)
+    go false e = enough-room (ltb-false room (length new) e)
 
 -- ---- the planner
 
@@ -69,18 +82,16 @@ module _ (n : Bytes) (search plan : List ℕ) where
     abbrev textAnswer : Result (List ℕ) → PlanAnswer
     textAnswer r = record { result = countOf r; search = left; plan = written r plan }
 
-    by-room : (p : Plan) → planFor net ≡ some p → (t : Bool) → ltb (length plan) (length (writePlan p)) ≡ t → PlanCase n search plan
-    by-room p f t r = go t r (answer-by (ok net) pass ∙ ap (λ (o : Option Plan). textAnswer (andThen (andThen (found o) textOf) (ifRoom (length plan)))) f
-        ∙ ap (λ (x : Bool). textAnswer (refuseIf x 13 (length (writePlan p)) (ok (writePlan p)))) r)
+    by-room : (p : Plan) → planFor net ≡ some p → Room (length plan) (writePlan p) (ifRoom (length plan) (writePlan p)) → PlanCase n search plan
+    by-room p f r = go (ifRoom (length plan) (writePlan p)) r (answer-by (ok net) pass ∙ ap (λ (o : Option Plan). textAnswer (andThen (andThen (found o) textOf) (ifRoom (length plan)))) f)
       where
-        go : (t : Bool) → ltb (length plan) (length (writePlan p)) ≡ t
-            → makePlan n search plan ≡ textAnswer (refuseIf t 13 (length (writePlan p)) (ok (writePlan p))) → PlanCase n search plan
-        go true r e = small-plan net p is enough f (ltb-true _ _ r) e
-        go false r e = gives net p is enough f e
+        go : (t : Result (List ℕ)) → Room (length plan) (writePlan p) t → makePlan n search plan ≡ textAnswer t → PlanCase n search plan
+        go t (short less) e = small-plan net p is enough f less e
+        go t (enough-room fits) e = gives net p is enough f e
 
     by-search : (o : Option Plan) → planFor net ≡ o → PlanCase n search plan
     by-search none f = no-plan net is enough f (answer-by (ok net) pass ∙ ap (λ (o : Option Plan). textAnswer (andThen (andThen (found o) textOf) (ifRoom (length plan)))) f)
-    by-search (some p) f = by-room p f (ltb (length plan) (length (writePlan p))) refl
+    by-search (some p) f = by-room p f (room-case (length plan) (writePlan p))
 
   by-checks : (net : Network) → readNetwork n ≡ ok net → (s t : Bool) → ltb 6 (length (steeringBits (net .nodes))) ≡ s → ltb (length search) searchEntries ≡ t → PlanCase n search plan
   by-checks net e s t f g = go s t f g (searchable-by (ok net) e
@@ -112,7 +123,11 @@ pub data ClockCase (p : Bytes) (tms tdi : List ℕ) : Type 0 where
       } → ClockCase p tms tdi
 
 room-is : {A : Type 0} (room : ℕ) (new got : List A) → ifRoom room new ≡ ok got → new ≡ got
-room-is room new got e = ok-is (passed-test (ltb room (length new)) 13 (length new) (ok new) got e .1)
+room-is {A} room new got e = go (ifRoom room new) (room-case room new) e
+  where
+    go : (r : Result (List A)) → Room room new r → r ≡ ok got → new ≡ got
+    go r (short less) f = absurd (not-ok f)
+    go r (enough-room fits) f = ok-is f
 
 clocks-are : (p : Bytes) (tms tdi : ℕ) (clocks : List Clock) → clocksWritten p tms tdi ≡ ok clocks → clocksOf p ≡ ok clocks
 unfolding clocksWritten

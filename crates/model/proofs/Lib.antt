@@ -1,3 +1,4 @@
+-- Why the demands hold of the definitions: laws first, the demands last.
 pub mod WellFormed
 pub mod Lists
 pub mod Walking
@@ -20,5 +21,5 @@ pub mod CallCases
 pub mod LentBuffers
 pub mod MarkerDemand
 pub mod PlannerDemand
-pub mod Demands
 pub mod Drawn
+pub mod Demands

@@ -155,6 +155,46 @@ written-line : (bs : List Bool) (plan : Plan) → writePlan (bs ∷ plan) ≡ cs
 unfolding writePlan
 written-line bs plan = refl
 
+record Lines (n : ℕ) (ls : List Bytes) (plan : Plan) : Type 0 where
+  text : joined lineEnd ls ≡ writePlan plan
+  few : n + length plan ≤ 17
+
+lines-read : (ls : List Bytes) (n : ℕ) (plan : Plan) → n ≤ 17 → planLines n ls ≡ ok plan → Lines n ls plan
+unfolding planLines joined writePlan
+lines-read [] n plan l e = subst (Lines n []) (ok-is e) record { text = refl; few = omega arith }
+lines-read (x ∷ []) n plan l e = last x e
+  where
+    last : (x : Bytes) → atEnd [] 14 x n ≡ ok plan → Lines n (x ∷ []) plan
+    last [] g = subst (Lines n ([] ∷ [])) (ok-is g) record { text = refl; few = omega arith }
+    last (b ∷ bs) g = absurd (not-ok g)
+lines-read (x ∷ y ∷ ls) n plan l e = go (csuLine x) refl e (λ q m f. lines-read (y ∷ ls) (suc n) q m f)
+  where
+    go : (o : Option (List Bool)) → csuLine x ≡ o → ifForm n o (λ bs. andThen (planLines (suc n) (y ∷ ls)) (before bs)) ≡ ok plan
+        → ((q : Plan) → suc n ≤ 17 → planLines (suc n) (y ∷ ls) ≡ ok q → Lines (suc n) (y ∷ ls) q) → Lines n (x ∷ y ∷ ls) plan
+    go none q g rest = absurd (not-ok g)
+    go (some bs) q g rest =
+        let a = passed-test _ 14 n _ plan g in
+        let small = ltb-false _ n (a .0) in
+        let h = handed (planLines (suc n) (y ∷ ls)) (before bs) plan (a .1) in
+        let r = rest (h .value) (omega arith) (h .given) in
+        subst (Lines n (x ∷ y ∷ ls)) (ok-is (h .then)) record {
+          text = ap (λ (w : Bytes). w ++ lineEnd ∷ joined lineEnd (y ∷ ls)) (sym (csu-bytes x bs q)) ∙ ap (λ (w : Bytes). csuBytes bs ++ lineEnd ∷ w) (r .text) ∙ sym (written-line bs (h .value));
+          few = omega (arith, r .few);
+        }
+
+-- a text of good form is the text of its operations, of which there are at most 16
+pub record TextOf (t : Bytes) (plan : Plan) : Type 0 where
+  pub text : t ≡ writePlan plan
+  pub few : length plan ≤ 16
+
+pub text-of : (t : Bytes) (plan : Plan) → readPlan t ≡ ok plan → TextOf t plan
+unfolding readPlan
+text-of t plan e =
+    let a = passed-test (ltb 64080 (length t)) 14 0 _ plan e in
+    let r = lines-read (parts lineEnd t) 1 plan (omega arith) (a .1) in
+    record { text = sym (parts-joined lineEnd t) ∙ r .text; few = omega (arith, r .few) }
+
+-- and the text of at most 16 operations that is short enough has good form
 no-lines : (n : ℕ) → planLines n (parts lineEnd (writePlan [])) ≡ ok []
 unfolding planLines parts writePlan
 no-lines n = refl
@@ -181,42 +221,3 @@ unfolding readPlan
 read-written plan l b =
     ap (λ (t : Bool). refuseIf t 14 0 (planLines 1 (parts lineEnd (writePlan plan)))) (le-ltb 64080 (length (writePlan plan)) b)
     ∙ lines-written plan 1 (omega arith)
-
-record Lines (n : ℕ) (ls : List Bytes) (plan : Plan) : Type 0 where
-  text : joined lineEnd ls ≡ writePlan plan
-  few : n + length plan ≤ 17
-
-lines-read : (ls : List Bytes) (n : ℕ) (plan : Plan) → n ≤ 17 → planLines n ls ≡ ok plan → Lines n ls plan
-unfolding planLines joined writePlan
-lines-read [] n plan l e = subst (Lines n []) (ok-is e) record { text = refl; few = omega arith }
-lines-read (x ∷ []) n plan l e = last x e
-  where
-    last : (x : Bytes) → atEnd [] 14 x n ≡ ok plan → Lines n (x ∷ []) plan
-    last [] g = subst (Lines n ([] ∷ [])) (ok-is g) record { text = refl; few = omega arith }
-    last (b ∷ bs) g = absurd (not-ok g)
-lines-read (x ∷ y ∷ ls) n plan l e = go (csuLine x) refl e (λ q m f. lines-read (y ∷ ls) (suc n) q m f)
-  where
-    go : (o : Option (List Bool)) → csuLine x ≡ o → ifForm n o (λ bs. andThen (planLines (suc n) (y ∷ ls)) (before bs)) ≡ ok plan
-        → ((q : Plan) → suc n ≤ 17 → planLines (suc n) (y ∷ ls) ≡ ok q → Lines (suc n) (y ∷ ls) q) → Lines n (x ∷ y ∷ ls) plan
-    go none q g rest = absurd (not-ok g)
-    go (some bs) q g rest =
-        let a = passed-test (ltb 16 n) 14 n _ plan g in
-        let small : n ≤ 16 = ltb-false 16 n (a .0) in
-        let h = handed (planLines (suc n) (y ∷ ls)) (before bs) plan (a .1) in
-        let r = rest (h .value) (omega arith) (h .given) in
-        subst (Lines n (x ∷ y ∷ ls)) (ok-is (h .then)) record {
-          text = ap (λ (w : Bytes). w ++ lineEnd ∷ joined lineEnd (y ∷ ls)) (sym (csu-bytes x bs q)) ∙ ap (λ (w : Bytes). csuBytes bs ++ lineEnd ∷ w) (r .text) ∙ sym (written-line bs (h .value));
-          few = omega (arith, r .few);
-        }
-
--- a text of good form is the text of its operations, of which there are at most 16
-pub record TextOf (t : Bytes) (plan : Plan) : Type 0 where
-  pub text : t ≡ writePlan plan
-  pub few : length plan ≤ 16
-
-pub text-of : (t : Bytes) (plan : Plan) → readPlan t ≡ ok plan → TextOf t plan
-unfolding readPlan
-text-of t plan e =
-    let a = passed-test (ltb 64080 (length t)) 14 0 _ plan e in
-    let r = lines-read (parts lineEnd t) 1 plan (omega arith) (a .1) in
-    record { text = sym (parts-joined lineEnd t) ∙ r .text; few = omega (arith, r .few) }

@@ -377,7 +377,7 @@ search-is net wf good = record { found = found; missing = missing }
   where
     found : (plan : Plan) → planFor net ≡ some plan → Named net plan × (length plan ≤ 16)
     found plan x =
-        let l = least net 0 16 plan x in
+        let l = least net 0 _ plan x in
         let s = search-sound net (l .e) [] (net .start) plan (l .found) in
         let len : length plan ≡ l .e = s .0 in (
           record {
@@ -394,4 +394,4 @@ search-is net wf good = record { found = found; missing = missing }
         )
 
     missing : planFor net ≡ none → (plan : Plan) → ValidPlan net plan → 16 < length plan
-    missing x plan v = not-less 17 (length plan) (λ h. not-below net wf good plan v (no-least net 0 16 x (length plan) (omega arith) (omega arith)))
+    missing x plan v = not-less 17 (length plan) (λ h. not-below net wf good plan v (no-least net 0 _ x (length plan) (omega arith) (omega arith)))
