@@ -12,8 +12,7 @@ use native.Mathlib.Nat.{suc-add, add-suc, add-zero, zero-add, le-of-suc-le-suc, 
 use lib.ListN.{length, getD, take, drop, length-drop, length-take, length-append, length-map}
 use lib.Seq.{take-at, drop-at, length-take-le}
 use lib.Dec.{eqb, leb, eqb→eq, T}
-use Rattle.model.specs.Frame.{fedBits}
-use Rattle.model.specs.Network.{segment, Node, multiplexer, Target, read, write, Config, Network, at, noNode, lenOf, mapFrom, steersAt, steers}
+use Rattle.model.specs.Network.{segment, Node, multiplexer, Target, read, write, Config, Network, at, noNode, lenOf, mapFrom, tabulate, steersAt, steers}
 use Rattle.model.specs.Path.{PathSegment, ScanPath, path, bitOf, valueOf, walk, pathOf, pathIn, ValidConfig, pathLength, on, share, loads, csu}
 use Rattle.model.specs.Plan.{Plan, configAfter, pathsFrom, ValidFrom, OnSome, Done, ValidPlan, wanted, fillSeg, fillOp, fillPlan}
 use Rattle.model.specs.Text.{Trit}
@@ -34,16 +33,16 @@ fillSeg-steers net s i [] b e = refl
 fillSeg-steers net s i (x ∷ xs) zero e = let z : steers (net .nodes) s i ≡ true = ap (steers (net .nodes) s) (sym (add-zero i)) ∙ e in ap some (ap (λ (t : Bool). cond t x (wanted (net .targets) s i)) (sym z))
 fillSeg-steers net s i (x ∷ xs) (suc b) e = fillSeg-steers net s (suc i) xs b (ap (steers (net .nodes) s) (suc-add i b ∙ sym (add-suc i b)) ∙ e)
 
-fillSeg-wanted : (net : Network) (s i : ℕ) (xs : List Bool) → ((b : ℕ) → steers (net .nodes) s b ≡ false) → fillSeg net s i xs ≡ fedBits (wanted (net .targets) s) i (length xs)
+fillSeg-wanted : (net : Network) (s i : ℕ) (xs : List Bool) → ((b : ℕ) → steers (net .nodes) s b ≡ false) → fillSeg net s i xs ≡ tabulate (wanted (net .targets) s) i (length xs)
 unfolding fillSeg
 fillSeg-wanted net s i [] u = refl
 fillSeg-wanted net s i (x ∷ xs) u = rw (u i, fillSeg-wanted net s (suc i) xs u)
 
-firstBits-of : (f : ℕ → Bool) (i : ℕ) (w : List Bool) → ((b : ℕ) → f (i + b) ≡ getD w b false) → fedBits f i (length w) ≡ w
-firstBits-of f i [] e = refl
-firstBits-of f i (x ∷ w) e =
+tabulate-of : (f : ℕ → Bool) (i : ℕ) (w : List Bool) → ((b : ℕ) → f (i + b) ≡ getD w b false) → tabulate f i (length w) ≡ w
+tabulate-of f i [] e = refl
+tabulate-of f i (x ∷ w) e =
     let h : f i ≡ x = ap f (sym (add-zero i)) ∙ e 0 in
-    rw (h, firstBits-of f (suc i) w (λ b. ap f (suc-add i b ∙ sym (add-suc i b)) ∙ e (suc b)))
+    rw (h, tabulate-of f (suc i) w (λ b. ap f (suc-add i b ∙ sym (add-suc i b)) ∙ e (suc b)))
 
 -- the front of an operation's bits, and the rest
 pub record Split (net : Network) (h : PathSegment) (p : ScanPath) (bs : List Bool) : Type 0 where
@@ -190,7 +189,7 @@ target-share net m (h ∷ p) bs s w f e u l n o = go (eqb (h .number) s) refl o 
         sym (length-fillSeg net (h .number) 0 (take (h .len) bs)) ∙ v .front ∙ f .2 ∙ ap (λ (i : ℕ). lenOf (at (net .nodes) i noNode)) k ∙ sym l in
         let x : X ≡ w =
         ap (λ (i : ℕ). fillSeg net i 0 (take (h .len) bs)) k ∙ fillSeg-wanted net s 0 (take (h .len) bs) u
-        ∙ ap (fedBits (wanted (net .targets) s) 0) len ∙ firstBits-of (wanted (net .targets) s) 0 w (λ b. ap (wanted (net .targets) s) (zero-add b) ∙ n b) in
+        ∙ ap (tabulate (wanted (net .targets) s) 0) len ∙ tabulate-of (wanted (net .targets) s) 0 w (λ b. ap (wanted (net .targets) s) (zero-add b) ∙ n b) in
         take-map some (h .len) (X ++ Y) ∙ ap (map some) (take-at X Y (h .len) (v .front) ∙ x)
     go false q y g = ap (λ (r : List Trit). share p r s) (drop-map some (h .len) (X ++ Y) ∙ ap (map some) (drop-at X Y (h .len) (v .front))) ∙ g y
 

@@ -9,7 +9,7 @@ use native.Mathlib.Omega.{arith}
 use native.Mathlib.Nat.{suc-add, add-suc, add-zero, le-of-suc-le-suc, not-suc-le-zero}
 use lib.ListN.{length, getD, take, drop}
 use lib.Dec.{eqb, T, eqb-refl, eqb→eq}
-use Rattle.model.specs.Network.{at, mapFrom}
+use Rattle.model.specs.Network.{at, mapFrom, tabulate}
 use Rattle.model.specs.Path.{place}
 use Rattle.model.specs.Printed.{number}
 use Rattle.model.specs.Result.{Result, ok, refused, refuseIf, andThen}
@@ -125,3 +125,22 @@ mapFrom-mapFrom i f g h (x ∷ xs) e = rw (e i x, mapFrom-mapFrom (suc i) f g h 
 pub at-mapFrom : {A B : Type 0} (f : ℕ → A → B) (l : List A) (s : ℕ) (a : A) (b : B) → 1 ≤ s → s ≤ length l → at (mapFrom 1 f l) s b ≡ f s (at l s a)
 at-mapFrom f l zero a b h u = absurd (not-suc-le-zero h)
 at-mapFrom f l (suc n) a b h u = getD-mapFrom 1 f l n a b u ∙ ap (λ (k : ℕ). f k (getD l n a)) (let z : 1 + n ≡ suc n = omega arith in z)
+
+-- ---- tabulate
+
+pub length-tabulate : {A : Type 0} (f : ℕ → A) (i n : ℕ) → length (tabulate f i n) ≡ n
+length-tabulate f i zero = refl
+length-tabulate f i (suc n) = ap suc (length-tabulate f (suc i) n)
+
+pub getD-tabulate : {A : Type 0} (f : ℕ → A) (i n x : ℕ) (d : A) → x < n → getD (tabulate f i n) x d ≡ f (i + x)
+getD-tabulate f i zero x d l = absurd (not-suc-le-zero l)
+getD-tabulate f i (suc n) zero d l = rw add-zero
+getD-tabulate f i (suc n) (suc x) d l = rw (add-suc, ← (suc-add i x)) (getD-tabulate f (suc i) n x d (le-of-suc-le-suc l))
+
+pub tabulate-cong : {A : Type 0} (f g : ℕ → A) (i n : ℕ) → ((x : ℕ) → x < n → f (i + x) ≡ g (i + x)) → tabulate f i n ≡ tabulate g i n
+tabulate-cong f g i zero e = refl
+tabulate-cong f g i (suc n) e =
+    let a : f i ≡ g i = ap f (sym (add-zero i)) ∙ e 0 (omega arith) ∙ ap g (add-zero i) in
+    let b : tabulate f (suc i) n ≡ tabulate g (suc i) n = tabulate-cong f g (suc i) n
+    (λ x l. ap f (suc-add i x ∙ sym (add-suc i x)) ∙ e (suc x) (omega arith) ∙ ap g (add-suc i x ∙ sym (suc-add i x))) in
+    rw (a, b)

@@ -10,7 +10,7 @@ use native.Mathlib.Nat.{suc-add, add-suc, add-zero, le-of-suc-le-suc, not-suc-le
 use lib.ListN.{length, getD, take, drop, length-append, List·getD-append, length-map}
 use lib.Seq.{drop-drop, take-append-add, getD-append-add, getD-take, getD-drop, split-at, take-length}
 use lib.Dec.{eqb}
-use Rattle.model.specs.Frame.{Registers, heldAt, shiftAt, setting, setPath, Captures, fedBits, Frame, play, showing, Holds}
+use Rattle.model.specs.Frame.{Registers, heldAt, shiftAt, setting, setPath, Captures, Frame, play, showing, Holds}
 use Rattle.model.specs.Mark.{Got, Pass, orLater, firstOn, holdsBits, targetsFrom, passed, markPlan}
 use Rattle.model.specs.Network.{Node, Target, read, write, Config, Network, at, noNode, lenOf}
 use Rattle.model.specs.Path.{ScanPath, pathLength, on, place, share}
@@ -19,9 +19,9 @@ use Rattle.model.specs.Played.{EachRead, no-more, of-read, of-write, aft
 use Rattle.model.specs.Result.{ok}
 use Rattle.model.specs.Tap.{idle, Clock, opClocks, planClocks}
 use Rattle.model.specs.Text.{bind}
-use Rattle.model.proofs.Lists.{eqb-is, or-right, none-some, getD-map-some}
+use Rattle.model.proofs.Lists.{eqb-is, or-right, none-some, getD-map-some, length-tabulate, getD-tabulate}
 use Rattle.model.proofs.Marking.{Marked, marked, holds-is, write-passed, gotAt, read-passed}
-use Rattle.model.proofs.Playing.{fr, plays-play, plays-showing, plays-valid, length-firstBits, falls, path-held, fedAt, opShows, operation, to-capture}
+use Rattle.model.proofs.Playing.{fr, plays-play, plays-showing, plays-valid, falls, path-held, fedAt, opShows, operation, to-capture}
 use Rattle.model.proofs.Registers.{shift-set, holds-known}
 use Rattle.model.proofs.Walking.{Falls, valid-by}
 use Rattle.model.proofs.WellFormed.{WellFormed}
@@ -94,11 +94,6 @@ found k (p ∷ ps) s kq e = go (place p s) refl e (λ x. found (suc k) ps s kq x
         let z : _≡_ {A = ℕ × ℕ} (k, q) kq = cc in
         record { d = 0; number = ap (λ (x : ℕ × ℕ). x .0) (sym z) ∙ sym (add-zero k); inside = omega arith; there = t ∙ ap (λ (x : ℕ × ℕ). some (x .1)) z }
 
-getD-firstBits : (f : ℕ → Bool) (i n x : ℕ) → x < n → getD (fedBits f i n) x false ≡ f (i + x)
-getD-firstBits f i zero x l = absurd (not-suc-le-zero l)
-getD-firstBits f i (suc n) zero l = rw add-zero
-getD-firstBits f i (suc n) (suc x) l = rw (add-suc, ← (suc-add i x)) (getD-firstBits f (suc i) n x (le-of-suc-le-suc l))
-
 take-3-op : (bs : List Bool) (l : List Clock) → take 3 (opClocks bs ++ l) ≡ take 3 (opClocks bs)
 unfolding opClocks
 take-3-op bs l = refl
@@ -131,10 +126,10 @@ module _ (net : Network) (wf : WellFormed net) (fed : Captures) (plan : Plan) (r
   inside = let a = its .fits in omega arith
 
   length-fed : length brought ≡ pathLength p
-  length-fed = length-firstBits (fed (suc (suc (length A + 0)))) 0 (pathLength p)
+  length-fed = length-tabulate (fed (suc (suc (length A + 0)))) 0 (pathLength p)
 
   fed-at : getD brought (q + j) false ≡ fed (length A + 2) (q + j)
-  fed-at = getD-firstBits (fed (suc (suc (length A + 0)))) 0 (pathLength p) (q + j) inside
+  fed-at = getD-tabulate (fed (suc (suc (length A + 0)))) 0 (pathLength p) (q + j) false inside
       ∙ (let a : suc (suc (length A + 0)) ≡ length A + 2 = omega arith in let b : 0 + (q + j) ≡ q + j = omega arith in rw (a, b))
 
   abbrev f₀ : Frame

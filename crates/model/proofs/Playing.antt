@@ -8,12 +8,13 @@ use Prim.Native.Nat.{ℕ, zero, suc, _+_, _≤_, _<_}
 use native.Mathlib.Omega.{arith}
 use native.Mathlib.Nat.{suc-add, add-suc, zero-add, le-of-suc-le-suc, not-suc-le-zero}
 use lib.ListN.{length, take, length-append}
-use Rattle.model.specs.Frame.{Registers, setting, pathBits, setPath, updatePath, Captures, fedBits, shows, headOr, shiftedIn, act, Frame, tick, shown, play, showing, Holds}
-use Rattle.model.specs.Network.{Config, Network, at}
+use Rattle.model.specs.Frame.{Registers, setting, pathBits, setPath, updatePath, Captures, shows, headOr, shiftedIn, act, Frame, tick, shown, play, showing, Holds}
+use Rattle.model.specs.Network.{Config, Network, at, tabulate}
 use Rattle.model.specs.Path.{ScanPath, path, bitOf, walk, pathLength}
 use Rattle.model.specs.Played.{ValidSetting}
-use Rattle.model.specs.Tap.{Tap, idle, exit1DR, captureDR, shiftDR, next, action, Clock, clk, shiftClocks, opClocks}
+use Rattle.model.specs.Tap.{Tap, idle, captureDR, shiftDR, exit1DR, next, action, Clock, clk, shiftClocks, opClocks}
 use Rattle.model.specs.Text.{isEmpty}
+use Rattle.model.proofs.Lists.{length-tabulate}
 use Rattle.model.proofs.Registers.{set-again, placed-set, holds-length, holds-grows, shadow-kept}
 use Rattle.model.proofs.Walking.{Falls, falls-up, WalkFalls, walk-falls, shadow-found, valid-by}
 use Rattle.model.proofs.WellFormed.{WellFormed}
@@ -78,10 +79,6 @@ from-shift : (bs : List Bool) → next shiftDR (isEmpty bs) ≡ shiftOr bs
 from-shift [] = refl
 from-shift (b ∷ bs) = refl
 
-pub length-firstBits : (f : ℕ → Bool) (i n : ℕ) → length (fedBits f i n) ≡ n
-length-firstBits f i zero = refl
-length-firstBits f i (suc n) = ap suc (length-firstBits f (suc i) n)
-
 length-tailWith : (b : Bool) (q : List Bool) → length (shiftedIn b q) ≡ length q
 length-tailWith b [] = refl
 length-tailWith b (x ∷ q) = length-append q (b ∷ []) ∙ (let z : length q + 1 ≡ suc (length q) = omega arith in z)
@@ -123,7 +120,7 @@ module _ (net : Network) (wf : WellFormed net) (fed : Captures) (c : Config) (rs
 
   -- what is brought to the path at clock i
   abbrev pub fedAt : ℕ → List Bool
-  fedAt i = fedBits (fed i) 0 (pathLength p)
+  fedAt i = tabulate (fed i) 0 (pathLength p)
 
   abbrev pub opShows : ℕ → List (Option Bool)
   opShows i = none ∷ none ∷ none ∷ (map some (fedAt (suc (suc i))) ++ none ∷ none ∷ [])
@@ -133,7 +130,7 @@ module _ (net : Network) (wf : WellFormed net) (fed : Captures) (c : Config) (rs
   unfolding opClocks
   operation bs i l =
       let brought = fedAt (suc (suc i)) in
-      let n : length brought ≡ pathLength p = length-firstBits (fed (suc (suc i))) 0 (pathLength p) in
+      let n : length brought ≡ pathLength p = length-tabulate (fed (suc (suc i))) 0 (pathLength p) in
       clock-on net fed p path-held refl refl
       (clock-on net fed p path-held refl refl
       (clock-on net fed p {f₁ = fr (shiftOr bs) (setPath p brought rs)} path-held (rw (from-capture bs)) refl

@@ -10,7 +10,7 @@ use native.Mathlib.Nat.{le-refl}
 use lib.ListN.{length, getD, getElem?}
 use lib.Dec.{leb}
 use Rattle.model.specs.Network.{segment, Node, multiplexer, Config, Network, at, noNode, hasShadow, lenOf}
-use Rattle.model.specs.Path.{PathSegment, ScanPath, Walk, path, address, stop, bitOf, valueOf, pick, onWay, enter, visit, walk, walkFrom, pathOf, ValidConfig}
+use Rattle.model.specs.Path.{PathSegment, ScanPath, Walk, path, address, stop, bitOf, valueOf, pick, onWay, enter, visit, walk, walkFrom, nodeOf, pathOf, ValidConfig}
 use Rattle.model.specs.Text.{Trit}
 use Rattle.model.proofs.WellFormed.{GoodNode, WellFormed}
 
@@ -53,12 +53,12 @@ visit-falls ns look n (multiplexer s b ins) e g go f =
     enter-falls ns (suc n) (pick ins (address look s b ins)) go (λ m q. pick-below ins (suc n) (g .inputs) (address look s b ins) m q) f
 
 module _ (ns : List Node) (good : (n : ℕ) → n < length ns → GoodNode ns (suc n) (getD ns n noNode)) where
-  pub walk-falls : (look : ℕ → ℕ → Trit) (f n : ℕ) → n ≤ length ns → WalkFalls ns (suc n) (walkFrom ns look f n)
+  pub walk-falls : (look : ℕ → ℕ → Trit) (f n : ℕ) → n ≤ length ns → WalkFalls ns (suc n) (walkFrom (nodeOf ns) look f n)
   unfolding walkFrom
   walk-falls look zero n l = tt
   walk-falls look (suc f) zero l = tt
   walk-falls look (suc f) (suc n) l =
-      visit-falls ns look n (getD ns n noNode) refl (good n l) (λ m. walkFrom ns look f m) (λ m b. walk-falls look f m (omega arith))
+      visit-falls ns look n (getD ns n noNode) refl (good n l) (λ m. walkFrom (nodeOf ns) look f m) (λ m b. walk-falls look f m (omega arith))
 
 -- ---- more known bits, the same path
 
@@ -116,12 +116,12 @@ module _ (look look′ : ℕ → ℕ → Trit) where
       (λ m q. f m (pick-below ins k (g .inputs) (address look s b ins) m q))
 
   pub walk-finds : (ns : List Node) → ((n : ℕ) → n < length ns → GoodNode ns (suc n) (getD ns n noNode)) → ((n : ℕ) → n < length ns → NodeGrows (getD ns n noNode))
-      → (f n : ℕ) → n ≤ length ns → Finds (walkFrom ns look f n) (walkFrom ns look′ f n)
+      → (f n : ℕ) → n ≤ length ns → Finds (walkFrom (nodeOf ns) look f n) (walkFrom (nodeOf ns) look′ f n)
   unfolding walkFrom
   walk-finds ns good grows zero n l = refl
   walk-finds ns good grows (suc f) zero l = refl
   walk-finds ns good grows (suc f) (suc n) l =
-      visit-finds ns (suc n) (getD ns n noNode) (good n l) (grows n l) (λ m. walkFrom ns look f m) (λ m. walkFrom ns look′ f m)
+      visit-finds ns (suc n) (getD ns n noNode) (good n l) (grows n l) (λ m. walkFrom (nodeOf ns) look f m) (λ m. walkFrom (nodeOf ns) look′ f m)
       (λ m b. walk-finds ns good grows f m (omega arith))
 
   -- enough: the bits of segments with shadow grow

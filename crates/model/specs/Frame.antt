@@ -6,7 +6,7 @@ use mathlib.Core.Option.{Option, none, some}
 use mathlib.Core.List.{List, [], _∷_, _++_, map}
 use Prim.Native.Nat.{ℕ, zero, suc}
 use Rattle.model.specs.Text.{Trit}
-use Rattle.model.specs.Network.{Node, hasShadow, Config, Network, at, mapFrom}
+use Rattle.model.specs.Network.{Node, hasShadow, Config, Network, at, mapFrom, tabulate}
 use Rattle.model.specs.Path.{ScanPath, Walk, path, stop, walk, pathLength, on, share, loads}
 use Rattle.model.specs.Tap.{Tap, next, Action, capture, shift, update, keep, action, Clock}
 
@@ -65,11 +65,6 @@ updatePath p rs = mapFrom 1 (λ s r. cond (loads p s) (copied r) r) rs
 abbrev pub Captures : Type 0
 Captures = ℕ → ℕ → Bool
 
--- n bits fed, from place i on
-abbrev pub fedBits : (ℕ → Bool) → ℕ → ℕ → List Bool
-fedBits fed i zero = []
-fedBits fed i (suc n) = fed i ∷ fedBits fed (suc i) n
-
 -- "shows place 0's shift bit"; "a path without bits shows TDI"
 abbrev pub headOr : Bool → List Bool → Bool
 headOr tdi [] = tdi
@@ -81,7 +76,7 @@ shiftedIn tdi [] = []
 shiftedIn tdi (b ∷ bs) = bs ++ tdi ∷ []
 
 abbrev pub act : ScanPath → Action → (ℕ → Bool) → Bool → Registers → Registers
-act p capture fed tdi rs = setPath p (fedBits fed 0 (pathLength p)) rs
+act p capture fed tdi rs = setPath p (tabulate fed 0 (pathLength p)) rs
 act p shift fed tdi rs = setPath p (shiftedIn tdi (pathBits p rs)) rs
 act p update fed tdi rs = updatePath p rs
 act p keep fed tdi rs = rs

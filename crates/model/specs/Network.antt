@@ -62,6 +62,11 @@ abbrev pub mapFrom {ℓ κ} : {A : Type ℓ} {B : Type κ} → ℕ → (ℕ → 
 mapFrom i f [] = []
 mapFrom i f (a ∷ l) = f i a ∷ mapFrom (suc i) f l
 
+-- n values of f, from number i on
+abbrev pub tabulate {ℓ} : {A : Type ℓ} → (ℕ → A) → ℕ → ℕ → List A
+tabulate f i zero = []
+tabulate f i (suc n) = f i ∷ tabulate f (suc i) n
+
 -- ---- "An address bit is a steering bit; its segment is a steering segment."
 
 -- "bit BIT of segment SEG for two inputs, and BIT + 2 × (the bit above) by their values for three or four"

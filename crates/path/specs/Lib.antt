@@ -1,0 +1,2 @@
+-- The layout of the record, and what the calls of this crate answer.
+pub mod Layout
