@@ -4,6 +4,7 @@ pub mod base;
 pub mod cases;
 pub mod damage;
 pub mod draft;
+pub mod edges;
 pub mod faults;
 pub mod large;
 pub mod maze;

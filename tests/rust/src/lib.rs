@@ -2,8 +2,8 @@
 //!
 //! The four programs are `programs::{read, plan, mark, clock}`. The library calls under them are
 //! `reader::read_network`, `planner::make_plan`, `marker::mark` and `clocks::write_clocks`.
-//! `frame` and `play` are the test frame, `brute` searches without cleverness, and `generate`
-//! makes networks and plans from a seed.
+//! `frame` and `play` are the test frame, `brute` tries every bit string on small networks, and
+//! `generate` makes networks and plans from a seed.
 //!
 //! A comment in quotation marks is a sentence of document 01.
 

@@ -68,8 +68,11 @@ pub fn check_pass(
     demand(reads_have_gots(network, &pass.gots), "the gots are not those of the read targets")?;
     let starts = operation_starts(&operations);
     demand(places_show(&playback, &starts), "a captured bit does not show at its place")?;
-    let shows = |got: &Got| got_shows(network, &playback, &starts, got);
-    demand(pass.gots.iter().all(shows), "a got does not show")
+    for got in &pass.gots {
+        demand(got_shows(network, &playback, &starts, got), "a got does not show")?;
+        demand(got_is_first(network, &playback, &starts, got), "a got comes too late")?;
+    }
+    Ok(())
 }
 
 fn demand(condition: bool, otherwise: &str) -> Result<(), String> {
@@ -117,10 +120,18 @@ fn places_show(playback: &Playback, starts: &[usize]) -> bool {
 /// j of t's segment at the Capture-DR clock of operation k shows at its shift clock p + j."
 fn got_shows(network: &Network, playback: &Playback, starts: &[usize], got: &Got) -> bool {
     let segment = network.targets[got.target - 1].segment();
-    let start = starts[got.operation - 1];
+    let Some(&start) = starts.get(got.operation - 1) else { return false };
     let fed = &playback.fed[start + 2];
     (0..network.len(segment)).all(|j| {
         let value = fed.iter().find(|fed| fed.segment == segment && fed.bit == j);
-        value.is_some_and(|fed| playback.shown[start + 3 + got.place + j] == Some(fed.value))
+        let shown = playback.shown.get(start + 3 + got.place + j);
+        value.is_some_and(|fed| shown == Some(&Some(fed.value)))
     })
+}
+
+/// "first operation with it on the path"
+fn got_is_first(network: &Network, playback: &Playback, starts: &[usize], got: &Got) -> bool {
+    let segment = network.targets[got.target - 1].segment();
+    let earlier = &starts[..got.operation - 1];
+    earlier.iter().all(|start| playback.fed[start + 2].iter().all(|fed| fed.segment != segment))
 }

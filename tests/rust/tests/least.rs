@@ -74,14 +74,14 @@ fn compare_many(seed: u64, networks: usize, draw: impl Fn(&mut Random) -> Vec<u8
 
 #[test]
 fn tiny_networks() {
-    let tally = compare_many(301, 60_000, |random| tiny(random, 7).text());
+    let tally = compare_many(301, 40_000, |random| tiny(random, 7).text());
     assert!(tally.least[..4].iter().all(|&count| count > 100), "{tally:?}");
     assert!(tally.none > 3_000, "{tally:?}");
 }
 
 #[test]
 fn mazes() {
-    let tally = compare_many(302, 40_000, |random| {
+    let tally = compare_many(302, 30_000, |random| {
         let depth = random.between(1, 4);
         maze(random, depth, 2).text()
     });
@@ -105,7 +105,7 @@ fn sib_networks() {
 
 #[test]
 fn networks_with_unknown_steering_bits() {
-    let tally = compare_many(304, 40_000, |random| {
+    let tally = compare_many(304, 30_000, |random| {
         let mut draft = if random.bit() { tiny(random, 8) } else { maze(random, 3, 1) };
         make_unknown(random, &mut draft);
         draft.text()

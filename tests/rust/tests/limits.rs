@@ -5,6 +5,7 @@ mod common;
 use common::{plan_text, refused, text};
 use penthluk_reference::clocks::write_clocks;
 use penthluk_reference::generate::draft::join;
+use penthluk_reference::generate::edges::{held_chain, long_network, plan_line};
 use penthluk_reference::generate::large::{chain, full, steered};
 use penthluk_reference::generate::maze::gray;
 use penthluk_reference::generate::random::Random;
@@ -94,15 +95,13 @@ fn targets() {
 /// A text that is filled up by one long BITS field is 6 as long as its length is allowed.
 #[test]
 fn network_bytes() {
-    let start = "seg\t0\t1\ts\nout\t1\nhold\t1\t";
-    let filled = |length: usize| {
-        let bits = "0".repeat(length - start.len() - 1);
-        read_network(format!("{start}{bits}\n").as_bytes())
-    };
-    assert_eq!(filled(MAX_NETWORK_BYTES), refused(6, 3));
-    assert_eq!(filled(MAX_NETWORK_BYTES + 1), refused(3, 0));
+    assert_eq!(long_network(MAX_NETWORK_BYTES).len(), MAX_NETWORK_BYTES);
+    assert_eq!(read_network(&long_network(MAX_NETWORK_BYTES)), refused(6, 3));
+    assert_eq!(read_network(&long_network(MAX_NETWORK_BYTES + 1)), refused(3, 0));
     assert_eq!(read_network(&vec![b'\n'; MAX_NETWORK_BYTES]), refused(1, 1));
     assert_eq!(read_network(&vec![b'\n'; MAX_NETWORK_BYTES + 1]), refused(3, 0));
+    let held = held_chain(&mut Random::new(702)).text();
+    assert!(held.len() > 6_500 && read_network(&held).is_ok());
 }
 
 #[test]
@@ -149,12 +148,12 @@ fn plan_bytes() {
 /// One line may fill the whole text: 15 for the marker, good for the clock writer.
 #[test]
 fn one_long_line() {
-    let mut plan = text(&[&format!("csu {}", "1".repeat(MAX_PLAN_BYTES - 5))]);
+    let plan = plan_line(MAX_PLAN_BYTES - 5);
     let (mut tms, mut tdi) = (vec![0; MAX_PLAN_BYTES], vec![0; MAX_PLAN_BYTES]);
     assert_eq!(write_clocks(&plan, &mut tms, &mut tdi), Ok(MAX_PLAN_BYTES));
     assert_eq!(mark(&text(&["out 0"]), &plan), refused(15, 1));
-    plan.insert(4, b'1');
-    assert_eq!(write_clocks(&plan, &mut tms, &mut tdi), refused(14, 0));
+    let one_more = plan_line(MAX_PLAN_BYTES - 4);
+    assert_eq!(write_clocks(&one_more, &mut tms, &mut tdi), refused(14, 0));
 }
 
 /// The planner writes long plans too: 16 operations on paths of over 3,400 bits, 128 nodes.

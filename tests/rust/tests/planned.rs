@@ -1,4 +1,4 @@
-//! The planner's plans pass the marker and bear out on the test frame what the pass says.
+//! The planner's plans pass the marker, and what the pass says holds on the test frame.
 
 mod common;
 

@@ -3,6 +3,7 @@
 use super::base::base;
 use super::damage::Damaged;
 use super::draft::Draft;
+use super::edges::{draw_edge_network, draw_edge_plan};
 use super::faults::{Fault, FAULTS};
 use super::large::{chain, full, large, steered};
 use super::maze::{gray, maze};
@@ -51,10 +52,11 @@ pub fn case(seed: u64) -> Case {
 
 /// A network text, in one of four cases damaged.
 pub fn draw_network_text(random: &mut Random) -> Vec<u8> {
-    match random.below(16) {
-        0..=11 => draw_network(random).text(),
-        12 | 13 => draw_damaged(random, 1).text(),
-        14 => draw_damaged(random, 2).text(),
+    match random.below(64) {
+        0..=45 => draw_network(random).text(),
+        46 | 47 => draw_edge_network(random),
+        48..=55 => draw_damaged(random, 1).text(),
+        56..=59 => draw_damaged(random, 2).text(),
         _ => {
             let text = draw_network(random).text();
             scramble(random, text)
@@ -123,12 +125,13 @@ pub fn draw_plan_text(random: &mut Random, network_text: &[u8]) -> Vec<u8> {
         Ok(network) => write_plan(&draw_plan(random, &network)),
         Err(_) => b"csu\t0\ncsu\t\n".to_vec(),
     };
-    match random.below(12) {
-        0 => {
+    match random.below(48) {
+        0..=3 => {
             let fault = *random.pick(&PLAN_FAULTS);
             damage_plan(random, &plan, fault).0
         }
-        1 => scramble(random, plan),
+        4..=7 => scramble(random, plan),
+        8 => draw_edge_plan(random),
         _ => plan,
     }
 }

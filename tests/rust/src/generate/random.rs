@@ -1,4 +1,4 @@
-//! The source of chance: the splitmix64 generator.
+//! The random numbers: the splitmix64 generator.
 
 /// A seeded stream of numbers.
 pub struct Random {

@@ -5,9 +5,12 @@
 //! with `USEFUL` added if it lies on a shortest way.
 
 use super::settings::Settings;
-use crate::limits::{MAX_OPERATIONS, SEARCH_ENTRIES};
+use crate::limits::{MAX_OPERATIONS, MAX_TARGETS, SEARCH_ENTRIES};
 
 const USEFUL: u16 = 0x8000;
+
+/// The count of sets of targets.
+const TARGET_SETS: u16 = 1 << MAX_TARGETS;
 
 /// The settings passed on the way that document 01 names, the first and the last included, or
 /// `None` if there is "no valid plan of at most 16 operations".
@@ -19,11 +22,15 @@ pub fn shortest(settings: &mut Settings, entries: &mut [u16]) -> Option<Vec<u16>
 
 /// The state with this setting and these targets reached.
 fn state_of(setting: u16, reached: u8) -> u16 {
-    setting * 16 + u16::from(reached)
+    setting * TARGET_SETS + u16::from(reached)
+}
+
+fn setting(state: u16) -> u16 {
+    state / TARGET_SETS
 }
 
 fn reached(state: u16) -> u8 {
-    (state % 16) as u8
+    (state % TARGET_SETS) as u8
 }
 
 /// Meets states in the order of their least count of operations, up to the first count that has a
@@ -40,11 +47,11 @@ fn spread(settings: &mut Settings, entries: &mut [u16]) -> Option<Vec<u16>> {
             return Some(met);
         }
         for index in from..to {
-            let view = settings.view(met[index] / 16);
+            let view = settings.view(setting(met[index]));
             let reached = reached(met[index]) | view.targets;
-            for setting in view.next_settings() {
-                let next = state_of(setting, reached);
-                if entries[usize::from(next)] == 0 && settings.view(setting).valid {
+            for next_setting in view.next_settings() {
+                let next = state_of(next_setting, reached);
+                if entries[usize::from(next)] == 0 && settings.view(next_setting).valid {
                     entries[usize::from(next)] = operations + 2;
                     met.push(next);
                 }
@@ -64,9 +71,9 @@ fn mark_useful(settings: &mut Settings, entries: &mut [u16], met: &[u16]) {
         let useful = if entry == last {
             reached(state) == settings.all_targets
         } else {
-            let view = settings.view(state / 16);
+            let view = settings.view(setting(state));
             let reached = reached(state) | view.targets;
-            let mut next = view.next_settings().map(|setting| state_of(setting, reached));
+            let mut next = view.next_settings().map(|next| state_of(next, reached));
             next.any(|next| entries[usize::from(next)] == USEFUL | (entry + 1))
         };
         if useful {
@@ -81,10 +88,9 @@ fn trace(settings: &mut Settings, entries: &[u16]) -> Vec<u16> {
     let mut passed = vec![settings.start];
     let mut state = state_of(settings.start, 0);
     while reached(state) != settings.all_targets {
-        let setting = state / 16;
-        let view = settings.view(setting);
+        let view = settings.view(setting(state));
         let reached = reached(state) | view.targets;
-        let order = settings.steering_in_place_order(setting);
+        let order = settings.steering_in_place_order(setting(state));
         let after = entries[usize::from(state)] + 1;
         let next = (0..1u8 << order.len())
             .map(|value| view.after(ones_in_order(value, &order)))

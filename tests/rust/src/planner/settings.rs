@@ -2,13 +2,14 @@
 //!
 //! A setting is a number in base three, one digit for each steering bit: 0, 1, or 2 for X.
 
-use crate::limits::MAX_STEERING_BITS;
+use crate::limits::{MAX_STEERING_BITS, MAX_TARGETS, SEARCH_ENTRIES};
 use crate::network::{Bit, Network, Node};
 use crate::steering::address_width;
 use crate::text::bit_byte;
 
 /// The count of settings of 6 steering bits.
 const SETTINGS: usize = 729;
+const _: () = assert!(SETTINGS << MAX_TARGETS == SEARCH_ENTRIES);
 
 /// The weight of each digit.
 const WEIGHTS: [u16; MAX_STEERING_BITS] = [1, 3, 9, 27, 81, 243];
@@ -59,12 +60,12 @@ enum Step {
 }
 
 /// A segment as an operation loads it.
-pub struct Segment {
+struct Segment {
     from: usize,
     /// The bits to shift, as bytes: the write target's, or 0.
     filling: Vec<u8>,
     /// The bits that steer, with their numbers among the steering bits, in rising order.
-    pub steering: Vec<(usize, usize)>,
+    steering: Vec<(usize, usize)>,
     targets: u8,
 }
 
