@@ -46,9 +46,11 @@ marker-exact n p = (there, back)
 
     back : AcceptedAndValid n p → (pass : Pass) × (mark n p ≡ ok pass)
     back a =
-        let v = valid-passed (a .net) (a .plan) (a .valid) in
-        (v .0, ap (λ (r : Result Network). andThen r (λ net. andThen (readPlan p) (markPlan net))) (a .accepted)
-            ∙ ap (λ (r : Result Plan). andThen r (markPlan (a .net))) (a .reads) ∙ v .1)
+        let v = valid-passed (a .net) (a .plan) (a .valid) in (
+          v .0,
+          ap (λ (r : Result Network). andThen r (λ net. andThen (readPlan p) (markPlan net))) (a .accepted)
+              ∙ ap (λ (r : Result Plan). andThen r (markPlan (a .net))) (a .reads) ∙ v .1,
+        )
 
 -- the verdict on two texts is the verdict on what they give
 marked-texts : (n p : Bytes) (net : Network) (plan : Plan) (pass : Pass) → readNetwork n ≡ ok net → readPlan p ≡ ok plan → mark n p ≡ ok pass → markPlan net plan ≡ ok pass
@@ -82,4 +84,3 @@ played-as-marked n p net plan clocks pass e f g m first holds fed =
     let c : planClocks plan ≡ clocks = ok-is (ap (λ (r : Result Plan). andThen r (λ q. ok (planClocks q))) (sym f) ∙ g) in
     subst (λ (ks : List Clock). UpheldBy net plan ks first fed pass) c
     (upheld net (accepted n net e .wf) plan pass (marked-texts n p net plan pass e f m) first holds fed)
-

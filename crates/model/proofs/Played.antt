@@ -197,7 +197,6 @@ module _ (net : Network) (wf : WellFormed net) (fed : Captures) (plan : Plan) (r
 
 -- ---- targets
 
-
 written : (t : ℕ) (ps : List ScanPath) (c : Config) (ts : List Target) (gs : List Got) → targetsFrom t ps c ts ≡ ok gs
     → (s : ℕ) (bs : List Bool) → List·Memᴰ (write s bs) ts → at c s [] ≡ map some bs
 unfolding targetsFrom

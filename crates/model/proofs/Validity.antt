@@ -151,7 +151,9 @@ unfolding markPlan
 valid-passed net plan v =
     let ps = pathsFrom net (net .start) plan in
     let last = configAfter net (net .start) plan in
-    let r = done-targets 1 ps last (net .targets) (v .done) in
-    (_, ap (byStart net plan) (valid-first net (net .start) plan (v .valid))
-        ∙ ap (λ (x : Result Run). andThen x (λ r. andThen (targetsFrom 1 (r .paths) (r .last) (net .targets)) (passed plan))) (runs net plan 1 (net .start) (v .valid))
-        ∙ ap (λ (x : Result (List Got)). andThen x (passed plan)) (r .1))
+    let r = done-targets 1 ps last (net .targets) (v .done) in (
+      _,
+      ap (byStart net plan) (valid-first net (net .start) plan (v .valid))
+          ∙ ap (λ (x : Result Run). andThen x (λ r. andThen (targetsFrom 1 (r .paths) (r .last) (net .targets)) (passed plan))) (runs net plan 1 (net .start) (v .valid))
+          ∙ ap (λ (x : Result (List Got)). andThen x (passed plan)) (r .1),
+    )

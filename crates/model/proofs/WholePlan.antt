@@ -99,4 +99,3 @@ module _ (net : Network) (wf : WellFormed net) (fed : Captures) where
   run-length [] k p c ps last r = let q : [] ≡ ps = ap (λ (x : Run). x .paths) (ok-is r) in rw (← q)
   run-length (bs ∷ plan) k p c ps last r =
       let s = stepped net k p c bs plan ps last r in rw (s .first) (ap suc (run-length plan (suc k) (s .p′) (csu p bs c) (s .ps′) last (s .later)))
-

@@ -35,7 +35,7 @@ unfoldable pub clocksOf : Bytes → Result (List Clock)
 clocksOf p = andThen (readPlan p) (λ plan. ok (planClocks plan))
 
 -- "buffer for plan, TMS or TDI too short", with "bytes needed"
-abbrev pub ifRoom : {A : Type 0} → ℕ → List A → Result (List A) 
+abbrev pub ifRoom : {A : Type 0} → ℕ → List A → Result (List A)
 ifRoom room new = refuseIf (ltb room (length new)) 13 (length new) (ok new)
 
 -- the clocks written, for lent buffers of these lengths
