@@ -41,7 +41,7 @@ pub record Placed (k : ℕ) (x : Node) : Type 0 where
   pub within : outside k x ≡ false
   pub form : GoodForm x
 
-total-more : (ns : List Node) (x : Node) → totalBits (ns ++ x ∷ []) ≡ totalBits ns + lenOf x
+pub total-more : (ns : List Node) (x : Node) → totalBits (ns ++ x ∷ []) ≡ totalBits ns + lenOf x
 unfolding totalBits
 total-more [] x = omega arith
 total-more (n ∷ ns) x = omega (arith, total-more ns x)
@@ -130,7 +130,7 @@ has-none d k e f = true-false (sym (ap isSome e) ∙ f)
 has-some : (d : Draft) → d .feeds ≡ none → hasOut d ≡ true → ⊥
 has-some d e f = true-false (sym f ∙ ap isSome e)
 
-sound-node : (d e : Draft) (n : ℕ) (x : Node) → GoodForm x → Sound d n → addNode d n x ≡ ok e → Sound e (suc n)
+pub sound-node : (d e : Draft) (n : ℕ) (x : Node) → GoodForm x → Sound d n → addNode d n x ≡ ok e → Sound e (suc n)
 unfolding addNode
 sound-node d e n x form s r =
     let a = passed-test (hasOut d) 4 n _ e r in
@@ -148,7 +148,7 @@ sound-node d e n x form s r =
       stage = no-out q (omega (arith, length-append (d .nodes) (x ∷ []))) hs ts;
     }
 
-sound-out : (d e : Draft) (n k : ℕ) → Sound d n → addOut d n k ≡ ok e → Sound e (suc n)
+pub sound-out : (d e : Draft) (n k : ℕ) → Sound d n → addOut d n k ≡ ok e → Sound e (suc n)
 unfolding addOut
 sound-out d e n k s r =
     let a = passed-test (hasOut d) 4 n _ e r in
@@ -168,7 +168,7 @@ sound-out d e n k s r =
           stage = behind-out k refl l q (rw hs (λ x i. absurd (List·Memᴰ·not-nil i))) (rw ts (no-targets (d .nodes)));
         }
 
-sound-hold : (d e : Draft) (n j : ℕ) (bs : List Trit) → Sound d n → addHold d n j bs ≡ ok e → Sound e (suc n)
+pub sound-hold : (d e : Draft) (n j : ℕ) (bs : List Trit) → Sound d n → addHold d n j bs ≡ ok e → Sound e (suc n)
 unfolding addHold
 sound-hold d e n j bs s r =
     let a = passed-test (not (hasOut d)) 4 n _ e r in
@@ -186,7 +186,7 @@ sound-hold d e n j bs s r =
       stage = behind-out k p z y (hold-more (d .nodes) (d .holds) record { segmentNumber = j; bits = bs } u l) w;
     }
 
-sound-target : (d e : Draft) (n : ℕ) (t : Target) → Sound d n → addTarget d n t ≡ ok e → Sound e (suc n)
+pub sound-target : (d e : Draft) (n : ℕ) (t : Target) → Sound d n → addTarget d n t ≡ ok e → Sound e (suc n)
 unfolding addTarget
 sound-target d e n t s r =
     let a = passed-test (not (hasOut d)) 4 n _ e r in
@@ -236,7 +236,7 @@ sound-lines (l ∷ m ∷ ls) d n r s e =
     let h = handed (addLine d n (lineOf l)) _ r e in
     sound-lines (m ∷ ls) (h .value) (suc n) r (sound-line d (h .value) n l s (h .given)) (h .then)
 
-sound-start : Sound noLines 1
+pub sound-start : Sound noLines 1
 unfolding totalBits
 sound-start = record {
   nodes-placed = λ i l. absurd (omega arith);
