@@ -31,7 +31,7 @@ pub record Accepted (net : Network) : Type 0 where
 
 -- ---- the first bad address
 
-no-bad : (all ns : List Node) (n : ℕ) → firstBad all n ns ≡ none → (i : ℕ) → i < length ns → badAddress all (getD ns i noNode) ≡ false
+pub no-bad : (all ns : List Node) (n : ℕ) → firstBad all n ns ≡ none → (i : ℕ) → i < length ns → badAddress all (getD ns i noNode) ≡ false
 unfolding firstBad
 no-bad all [] n e i l = absurd (not-suc-le-zero l)
 no-bad all (x ∷ ns) n e i l = go (badAddress all x) refl e i l (λ f j m. no-bad all ns (suc n) f j m)

@@ -1,1 +1,6 @@
-// The record's arrays: words of bits, the walk, the path and the CSU operation.
+// The record's arrays: words of bits, nodes, the walk, the path's places and the load of a CSU operation.
+pub mod layout;
+pub mod load;
+pub mod places;
+pub mod walk;
+pub mod words;

@@ -114,7 +114,7 @@ module _ {A : Type 0} (read : ℕ → Option A) where
   unfolding bitsFrom
   bits-last f i above bs h e = some-same above bs (rw (drop-of-length-le f h) at e)
 
-  from-length : (f : Bytes) (above bs : List A) → bitsFrom read above f ≡ some bs → length bs ≡ length f + length above
+  pub from-length : (f : Bytes) (above bs : List A) → bitsFrom read above f ≡ some bs → length bs ≡ length f + length above
   unfolding bitsFrom
   from-length [] above bs e = omega (arith, ap length (some-same above bs e))
   from-length (b ∷ f) above bs e =

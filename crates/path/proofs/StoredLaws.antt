@@ -1,0 +1,78 @@
+-- Laws for the callers of a network that the arrays hold: what `find_path` asks and answers, and what follows for the path's length, places and load.
+-- Assumes nothing.
+use mathlib.Core.Path.{_≡_, sym, ap, subst, _∙_}
+use mathlib.Core.Option.{Option}
+use mathlib.Core.List.{List, map}
+use Prim.Native.Nat.{ℕ, suc, _<_, _≤_}
+use native.Mathlib.Omega.{arith}
+use lib.ListN.{length, getD, take}
+use Rattle.model.specs.Network.{Node, Network, Config, noNode}
+use Rattle.model.specs.Path.{ScanPath, path, stop, bitOf, walk, walkFrom, nodeOf, pathOf, pathIn, ValidConfig, pathLength, on, place, csu}
+use Rattle.model.proofs.Lists.{length-tabulate}
+use Rattle.model.proofs.Walking.{valid-by}
+use Rattle.model.proofs.WellFormed.{GoodNode, WellFormed}
+use Rattle.path.specs.Layout.{nodeAt, nodesOf, configOf, scanPath, byteBit}
+use Rattle.path.specs.Answers.{Walkable, HoldsPath, told, Holds, Found, Loads}
+use Rattle.path.specs.declared.walk.Walked.{Walked}
+use Rattle.path.specs.declared.walk.Walked.the-variants.{Path, Stop as Stopped}
+use Rattle.path.proofs.ConfigLaws.{good-safe, found-config}
+use Rattle.path.proofs.PathLaws.{isPlace, on-place}
+
+-- the arrays hold the network: its nodes, and the number of the node that feeds scan-out
+pub record Stored (net : Network) (ns : List ℕ) (count out : ℕ) : Type 0 where
+  pub nodes : net .nodes ≡ nodesOf ns count
+  pub feeds : net .out ≡ out
+  pub most : count ≤ 128
+  pub formed : WellFormed net
+
+-- the path of n segments in the lent memory is the network's path in the configuration
+pub record PathFound (net : Network) (c : Config) (ns way : List ℕ) (n : ℕ) : Type 0 where
+  pub walks : walk net c ≡ path (scanPath ns (take n way))
+  pub is : pathIn net c ≡ scanPath ns (take n way)
+  pub valid : ValidConfig net c
+  pub holds : HoldsPath ns way n
+
+module _ (net : Network) (ns : List ℕ) (count out : ℕ) (st : Stored net ns count out) where
+  stored-good : (n : ℕ) → n < length (nodesOf ns count) → GoodNode (nodesOf ns count) (suc n) (getD (nodesOf ns count) n noNode)
+  stored-good = subst (λ (l : List Node). (n : ℕ) → n < length l → GoodNode l (suc n) (getD l n noNode)) (st .nodes) (st .formed .backwards)
+
+  stored-out : out ≤ count
+  stored-out = omega (arith, st .feeds, st .formed .ends, ap length (st .nodes), length-tabulate (nodeAt ns) 1 count)
+
+  -- what `find_path` asks
+  pub stored-walkable : (way : List ℕ) → length way ≡ 128 → Walkable ns out way 0
+  stored-walkable way e = record { safe = λ k a b. good-safe ns count (st .most) stored-good k a (omega (arith, stored-out)); size = e; room = omega (arith, stored-out, st .most) }
+
+  -- what it answers
+  module _ (bits known : List ℕ) (r : Walked) (way : List ℕ) (f : Found ns bits known out r way) where
+    pub found-walk : walk net (configOf ns bits known count) ≡ told ns way r
+    found-walk =
+        ap (λ (l : List Node). walkFrom (nodeOf l) (bitOf (configOf ns bits known count)) (net .out) (net .out)) (st .nodes)
+        ∙ ap (λ (n : ℕ). walkFrom (nodeOf (nodesOf ns count)) (bitOf (configOf ns bits known count)) n n) (st .feeds)
+        ∙ found-config ns count (st .most) stored-good bits known out r way stored-out f
+
+    pub found-stop : (m : ℕ) → r ≡ Stopped m → walk net (configOf ns bits known count) ≡ stop m
+    found-stop m e = found-walk ∙ ap (told ns way) e
+
+    pub found-path : (n : ℕ) → r ≡ Path n → PathFound net (configOf ns bits known count) ns way n
+    found-path n e =
+        let w : walk net (configOf ns bits known count) ≡ path (scanPath ns (take n way)) = found-walk ∙ ap (told ns way) e in
+        record { walks = w; is = ap pathOf w; valid = valid-by net (configOf ns bits known count) (scanPath ns (take n way)) w; holds = subst (Holds ns way) e (f .holds) }
+
+-- ---- what follows for the path's length, a segment's place on it, and the load
+
+module _ {net : Network} {c : Config} {ns way : List ℕ} {n : ℕ} (f : PathFound net c ns way n) where
+  pub length-found : (len : ℕ) → len ≡ pathLength (scanPath ns (take n way)) → len ≡ pathLength (pathIn net c)
+  length-found len e = e ∙ ap pathLength (sym (f .is))
+
+  pub place-found : (s : ℕ) (o : Option ℕ) → o ≡ place (scanPath ns (take n way)) s → o ≡ place (pathIn net c) s
+  place-found s o e = e ∙ ap (λ (p : ScanPath). place p s) (sym (f .is))
+
+  pub on-found : (s : ℕ) (o : Option ℕ) → o ≡ place (scanPath ns (take n way)) s → on (pathIn net c) s ≡ isPlace o
+  on-found s o e = on-place (pathIn net c) s ∙ ap isPlace (sym (place-found s o e))
+
+pub loads-found : (net : Network) (ns way : List ℕ) (n : ℕ) (scan bits known bits′ known′ : List ℕ) (count : ℕ) → PathFound net (configOf ns bits known count) ns way n
+    → Loads ns way n scan bits known bits′ known′
+    → configOf ns bits′ known′ count ≡ csu (pathIn net (configOf ns bits known count)) (map byteBit scan) (configOf ns bits known count)
+loads-found net ns way n scan bits known bits′ known′ count f l =
+    l .loads count ∙ ap (λ (p : ScanPath). csu p (map byteBit scan) (configOf ns bits known count)) (sym (f .is))

@@ -1,0 +1,15 @@
+-- `path::walk::find_path` meets its contract.
+-- Assumes nothing.
+use borrow.Author.Needs.{needs}
+use Rattle.path.proofs.PathLaws.{found}
+use Rattle.path.proofs.walk.find_path.Statement.{statement}
+use Rattle.path.proofs.walk.find_path.Tie as tie
+
+walk-requires : tie.Need-walk-requires
+walk-requires c κs = search needs
+
+returns : tie.Need-returns
+returns c = found _ _ _ _ _ _ _ (c .before .before .pre) (c .walk .ensures)
+
+pub find-path-spec : {M : Type 1} → statement M
+find-path-spec = tie.close (tie.spec walk-requires returns)
