@@ -52,7 +52,7 @@ inputs-below k (x ∷ ins) e zero m g =
     let l : x < k = leb-false k x (a .0) in omega arith
 inputs-below k (x ∷ ins) e (suc i) m g = inputs-below k ins (or-parts (leb k x) (anyFrom k ins) e .1) i m g
 
-good-node : (ns : List Node) (k : ℕ) (x : Node) → Placed k x → badAddress ns x ≡ false → GoodNode ns k x
+pub good-node : (ns : List Node) (k : ℕ) (x : Node) → Placed k x → badAddress ns x ≡ false → GoodNode ns k x
 good-node ns k (segment from len shadow) p b =
     let a = or-parts (leb k from || ltb len 1) (ltb 32 len) (p .within) in
     let c = or-parts (leb k from) (ltb len 1) (a .0) in

@@ -178,7 +178,7 @@ tabulate-const : {A : Type 0} (f : ℕ → A) (a : A) (i n : ℕ) → ((j : ℕ)
 tabulate-const f a i zero e = refl
 tabulate-const f a i (suc n) e = rw (e i, tabulate-const f a (suc i) n e)
 
-zero-bit : (j : ℕ) → wordBit 0 j ≡ false
+pub zero-bit : (j : ℕ) → wordBit 0 j ≡ false
 zero-bit j = ap (λ (n : ℕ). eqb (n % 2) 1) (zero-div (2 ^ j))
 
 pub trits-zero : (width len : ℕ) → len ≤ width → tritsOf len 0 (2 ^ width - 1) ≡ replicate len (some false)

@@ -1,0 +1,241 @@
+-- Laws of a node's fields: bounds, the eight numbers, the words of steering bits.
+-- Assumes nothing.
+use mathlib.Core.Path.{_≡_, refl, sym, ap, _∙_, subst}
+use mathlib.Core.Bool.{Bool, true, false, cond, not, _&&_, _||_}
+use mathlib.Core.Logic.{_⊎_, inl, inr}
+use mathlib.Core.List.{List, [], _∷_}
+use Prim.Native.Nat.{ℕ, zero, suc, _+_, _-_, _*_, _/_, _%_, _^_, _≤_, _<_, max}
+use native.Mathlib.Omega.{arith}
+use native.Mathlib.Decide.{decLt}
+use native.Mathlib.Numerals.{add-one}
+use lib.ListN.{length, getD, take, set, length-set}
+use lib.Seq.{getD-set-same, getD-set-other}
+use lib.Dec.{eqb, leb, ltb}
+use lib.Bits.{bitOr, or-shr, or-step, or-lt}
+use lib.Pow.{pow-lt, pow-add, pow-pos}
+use native.Mathlib.Nat.{pow-suc, div-eq-of-lt, div-self, mul-div-cancel, mod-eq-of-lt}
+use borrow.Author.Tests.{le-leb, lt-leb, lt-ltb, le-ltb, eq-eqb, ne-eqb, eqb-true, eqb-false}
+use Rattle.model.specs.Network.{Node, segment, multiplexer, tabulate, steersAt}
+use Rattle.model.specs.NetworkText.{anyFrom, outside}
+use Rattle.model.proofs.Lists.{tabulate-cong}
+use Rattle.path.specs.Layout.{fieldAt, nodeAt, wordBit}
+use Rattle.network.specs.Line.{inputsOf}
+use Rattle.network.specs.Store.{Row, Stored, Small, BitMarked, Marked}
+
+-- ---- bounds
+
+-- 2 to 4, by cases
+pub by-count : (P : ℕ → Type 0) (n : ℕ) → 2 ≤ n → n ≤ 4 → P 2 → P 3 → P 4 → P n
+by-count P n lo hi p q r = go (decLt n 3) (decLt n 4)
+  where
+    go : Dec (n < 3) → Dec (n < 4) → P n
+    go (yes h) k = subst P (let z : 2 ≡ n = omega arith in z) p
+    go (no h) (yes k) = subst P (let z : 3 ≡ n = omega arith in z) q
+    go (no h) (no k) = subst P (let z : 4 ≡ n = omega arith in z) r
+
+module _ (n count a b c d : ℕ) (lo : 2 ≤ count) (hi : count ≤ 4) where
+  abbrev Any : Bool → ℕ → Type 0
+  Any t k = t ≡ anyFrom n (inputsOf k a b c d)
+
+  pub any-first : n ≤ a → Any true count
+  any-first h = let e = le-leb n a h in by-count (Any true) count lo hi (rw e) (rw e) (rw e)
+
+  pub any-second : a < n → n ≤ b → Any true count
+  any-second g h = let e = lt-leb n a g in let f = le-leb n b h in by-count (Any true) count lo hi (rw (e, f)) (rw (e, f)) (rw (e, f))
+
+  module _ (g : a < n) (h : b < n) where
+    pub none-of-two : count ≡ 2 → Any false count
+    none-of-two e = rw (e, lt-leb n a g, lt-leb n b h)
+
+    module _ (more : count ≡ 2 → ⊥) where
+      pub any-third : n ≤ c → Any true count
+      any-third k =
+          let e = lt-leb n a g in let f = lt-leb n b h in let i = le-leb n c k in
+          let low : 3 ≤ count = omega arith in go (decLt count 4) e f i
+        where
+          go : Dec (count < 4) → leb n a ≡ false → leb n b ≡ false → leb n c ≡ true → Any true count
+          go (yes l) e f i = subst (Any true) (let z : 3 ≡ count = omega arith in z) (rw (e, f, i))
+          go (no l) e f i = subst (Any true) (let z : 4 ≡ count = omega arith in z) (rw (e, f, i))
+
+      pub none-of-three : c < n → count ≡ 3 → Any false count
+      none-of-three k e = rw (e, lt-leb n a g, lt-leb n b h, lt-leb n c k)
+
+      pub any-last : c < n → (count ≡ 3 → ⊥) → Any (leb n d) count
+      any-last k no-three =
+          let z : 4 ≡ count = omega arith in
+          subst (Any (leb n d)) z (rw (lt-leb n a g, lt-leb n b h, lt-leb n c k) (last (leb n d)))
+        where
+          last : (t : Bool) → t ≡ (t || false)
+          last true = refl
+          last false = refl
+
+module _ (n from len : ℕ) (s : Bool) where
+  pub outside-from : n ≤ from → true ≡ outside n (segment from len s)
+  outside-from h = rw (le-leb n from h)
+
+  pub outside-short : from < n → len < 1 → true ≡ outside n (segment from len s)
+  outside-short g h = rw (lt-leb n from g, lt-ltb len 1 h)
+
+  pub outside-long : from < n → 1 ≤ len → ltb 32 len ≡ outside n (segment from len s)
+  outside-long g h = rw (lt-leb n from g, le-ltb len 1 h)
+
+-- ---- the eight numbers
+
+-- nodes with the same eight numbers
+pub node-by-fields : (ns ms : List ℕ) (k j : ℕ) → ((i : ℕ) → i < 8 → fieldAt ns k i ≡ fieldAt ms j i) → fieldAt ms j 0 ≤ 4 → nodeAt ns k ≡ nodeAt ms j
+unfolding nodeAt
+node-by-fields ns ms k j e small =
+    let e0 = e 0 (omega arith) in
+    let e1 = e 1 (omega arith) in
+    let e2 = e 2 (omega arith) in
+    let ins : tabulate (λ i. fieldAt ns k (4 + i)) 0 (fieldAt ms j 0) ≡ tabulate (λ i. fieldAt ms j (4 + i)) 0 (fieldAt ms j 0) =
+    tabulate-cong _ _ 0 (fieldAt ms j 0) (λ x l. e (4 + (0 + x)) (omega arith)) in
+    rw (e0, e1, e2, ins)
+
+pub segment-row : (from len : ℕ) (s : Bool) → Row (segment from len s) (cond s 1 0 ∷ from ∷ len ∷ 0 ∷ 0 ∷ 0 ∷ 0 ∷ 0 ∷ [])
+unfolding nodeAt
+segment-row from len true = record { size = refl; kind = omega arith; is = refl }
+segment-row from len false = record { size = refl; kind = omega arith; is = refl }
+
+pub mux-row : (n s b i0 i1 i2 i3 : ℕ) → 2 ≤ n → n ≤ 4 → Row (multiplexer s b (inputsOf n i0 i1 i2 i3)) (n ∷ s ∷ b ∷ 0 ∷ i0 ∷ i1 ∷ i2 ∷ i3 ∷ [])
+unfolding nodeAt
+mux-row n s b i0 i1 i2 i3 lo hi =
+    by-count (λ k. Row (multiplexer s b (inputsOf k i0 i1 i2 i3)) (k ∷ s ∷ b ∷ 0 ∷ i0 ∷ i1 ∷ i2 ∷ i3 ∷ [])) n lo hi
+    (record { size = refl; kind = omega arith; is = refl })
+    (record { size = refl; kind = omega arith; is = refl })
+    (record { size = refl; kind = omega arith; is = refl })
+
+-- the first i of the eight numbers are stored
+pub record Storing (ns : List ℕ) (k : ℕ) (row : List ℕ) (i : ℕ) (ns′ : List ℕ) : Type 0 where
+  pub size : length ns′ ≡ length ns
+  pub here : (x : ℕ) → x < i → getD ns′ (k * 8 + x) 0 ≡ getD row x 0
+  pub others : (y : ℕ) → ((x : ℕ) → x < i → y ≡ k * 8 + x → ⊥) → getD ns′ y 0 ≡ getD ns y 0
+
+pub storing-none : (ns : List ℕ) (k : ℕ) (row : List ℕ) → Storing ns k row 0 ns
+storing-none ns k row = record { size = refl; here = λ x l. absurd (omega arith); others = λ y f. refl }
+
+pub storing-more : (ns : List ℕ) (k : ℕ) (row : List ℕ) (i : ℕ) (ns′ : List ℕ) → length ns ≡ 1032 → k ≤ 128 → i < 8 → Storing ns k row i ns′
+    → Storing ns k row (i + 1) (set ns′ (k * 8 + i) (getD row i 0))
+storing-more ns k row i ns′ long hk hi p = record {
+  size = length-set ns′ (k * 8 + i) (getD row i 0) ∙ p .size;
+  here = λ x l. here x l (decLt x i);
+  others = λ y f. getD-set-other ns′ (k * 8 + i) y (getD row i 0) 0 (λ z. f i (omega arith) z) ∙ p .others y (λ x l z. f x (omega arith) z);
+}
+  where
+    here : (x : ℕ) → x < i + 1 → Dec (x < i) → getD (set ns′ (k * 8 + i) (getD row i 0)) (k * 8 + x) 0 ≡ getD row x 0
+    here x l (yes h) = getD-set-other ns′ (k * 8 + i) (k * 8 + x) (getD row i 0) 0 (λ z. omega arith) ∙ p .here x h
+    here x l (no h) =
+        let e : x ≡ i = omega arith in
+        rw e (getD-set-same ns′ (k * 8 + i) (getD row i 0) 0 (omega (arith, p .size)))
+
+pub storing-all : (ns : List ℕ) (k : ℕ) (row : List ℕ) (i : ℕ) (ns′ : List ℕ) → 8 ≤ i → i ≤ 8 → Storing ns k row i ns′ → Stored ns k row ns′
+storing-all ns k row i ns′ lo hi p = record {
+  size = p .size;
+  here = λ x l. p .here x (omega arith);
+  others = λ j x ne l. p .others (j * 8 + x) (λ y m z. ne (omega arith));
+}
+
+-- ---- the words of steering bits
+
+bit-max : (x y : ℕ) → x < 2 → y < 2 → eqb (max x y) 1 ≡ (eqb x 1 || eqb y 1)
+bit-max x y a b = go (decLt x 1) (decLt y 1)
+  where
+    go : Dec (x < 1) → Dec (y < 1) → eqb (max x y) 1 ≡ (eqb x 1 || eqb y 1)
+    go (yes h) (yes k) = let e : x ≡ 0 = omega arith in let f : y ≡ 0 = omega arith in rw (e, f)
+    go (yes h) (no k) = let e : x ≡ 0 = omega arith in let f : y ≡ 1 = omega arith in rw (e, f)
+    go (no h) (yes k) = let e : x ≡ 1 = omega arith in let f : y ≡ 0 = omega arith in rw (e, f)
+    go (no h) (no k) = let e : x ≡ 1 = omega arith in let f : y ≡ 1 = omega arith in rw (e, f)
+
+wordBit-or : (v w c : ℕ) → wordBit (bitOr v w) c ≡ (wordBit v c || wordBit w c)
+wordBit-or v w c =
+    let p = v / 2 ^ c in
+    let q = w / 2 ^ c in
+    let e : bitOr p q % 2 ≡ max (p % 2) (q % 2) = ap (λ (x : ℕ). x % 2) (or-step p q) ∙ omega arith in
+    ap (λ (x : ℕ). eqb (x % 2) 1) (or-shr v w c) ∙ ap (λ (x : ℕ). eqb x 1) e ∙ bit-max (p % 2) (q % 2) (omega arith) (omega arith)
+
+-- bit c of the word whose only bit is b
+wordBit-pow : (b c : ℕ) → wordBit (2 ^ b) c ≡ eqb b c
+wordBit-pow b c = go (decLt c b) (decLt b c)
+  where
+    go : Dec (c < b) → Dec (b < c) → wordBit (2 ^ b) c ≡ eqb b c
+    go (yes h) k =
+        let m = b - suc c in
+        let e : b ≡ suc m + c = omega arith in
+        let q : 2 ^ b / 2 ^ c ≡ 2 ^ m * 2 = ap (λ (x : ℕ). 2 ^ x / 2 ^ c) e ∙ ap (λ (x : ℕ). x / 2 ^ c) (pow-add 2 (suc m) c) ∙ mul-div-cancel (2 ^ suc m) (pow-pos c) ∙ pow-suc 2 m in
+        let z : 2 ^ b / 2 ^ c % 2 ≡ 0 = ap (λ (x : ℕ). x % 2) q ∙ omega arith in
+        rw (z, ne-eqb b c (λ w. omega arith))
+    go (no h) (yes k) =
+        let z : 2 ^ b / 2 ^ c ≡ 0 = div-eq-of-lt (pow-lt k) in
+        rw (z, ne-eqb b c (λ w. omega arith))
+    go (no h) (no k) =
+        let e : b ≡ c = omega arith in
+        let z : 2 ^ c / 2 ^ c ≡ 1 = div-self (pow-pos c) in
+        rw (e, z, eq-eqb c c refl)
+
+or-false : (t : Bool) → t ≡ (t || false)
+or-false true = refl
+or-false false = refl
+
+and-no : (a b : Bool) → b ≡ false → (a && b) ≡ false
+and-no true b e = e
+and-no false b e = refl
+
+-- no such segment, or no such bit
+pub no-segment : (old : List ℕ) (s b : ℕ) → 128 < s → BitMarked old s b old
+no-segment old s b h = record { size = refl; marks = λ r c l m. rw (ne-eqb s r (λ z. omega arith)) (or-false (wordBit (getD old r 0) c)); small = λ f. f }
+
+pub no-bit : (old : List ℕ) (s b : ℕ) → 31 < b → BitMarked old s b old
+no-bit old s b h = record {
+  size = refl;
+  marks = λ r c l m. rw (and-no (eqb s r) (eqb b c) (ne-eqb b c (λ z. omega arith))) (or-false (wordBit (getD old r 0) c));
+  small = λ f. f;
+}
+
+pub bit-marked : (old : List ℕ) (s b v : ℕ) → length old ≡ 129 → s ≤ 128 → b ≤ 31 → v ≡ bitOr (getD old s 0) (2 ^ b) → BitMarked old s b (set old s v)
+bit-marked old s b v size hs hb e = record { size = length-set old s v; marks = λ r c l m. marks r c (eqb s r) refl; small = small }
+  where
+    marks : (r c : ℕ) (t : Bool) → eqb s r ≡ t → wordBit (getD (set old s v) r 0) c ≡ (wordBit (getD old r 0) c || (t && eqb b c))
+    marks r c true f =
+        rw (← (eqb-true s r f), getD-set-same old s v 0 (omega arith), e)
+        (wordBit-or (getD old s 0) (2 ^ b) c ∙ ap (λ (t : Bool). wordBit (getD old s 0) c || t) (wordBit-pow b c))
+    marks r c false f = rw (getD-set-other old s r v 0 (λ z. eqb-false s r f (sym z))) (or-false (wordBit (getD old r 0) c))
+
+    small : Small old → Small (set old s v)
+    small f r = go (eqb s r) refl
+      where
+        go : (t : Bool) → eqb s r ≡ t → getD (set old s v) r 0 < 2 ^ 32
+        go true g = rw (← (eqb-true s r g), getD-set-same old s v 0 (omega arith), e) (or-lt 32 (getD old s 0) (2 ^ b) (f s) (pow-lt {i = b} {j = 32} (omega arith)))
+        go false g = rw (getD-set-other old s r v 0 (λ z. eqb-false s r g (sym z))) (f r)
+
+-- the address bits of a node
+pub marked-none : (old : List ℕ) (from len : ℕ) (s : Bool) → Marked old (segment from len s) old
+marked-none old from len s = record { size = refl; marks = λ r c l m. or-false (wordBit (getD old r 0) c); small = λ f. f }
+
+pub marked-one : (old new : List ℕ) (s b n i0 i1 i2 i3 : ℕ) → 2 ≤ n → n ≤ 4 → n ≤ 2 → BitMarked old s b new → Marked old (multiplexer s b (inputsOf n i0 i1 i2 i3)) new
+marked-one old new s b n i0 i1 i2 i3 lo hi two m =
+    let e : 2 ≡ n = omega arith in
+    subst (λ (k : ℕ). Marked old (multiplexer s b (inputsOf k i0 i1 i2 i3)) new) e
+    record { size = m .size; marks = λ r c l k. m .marks r c l k ∙ ap (λ (t : Bool). wordBit (getD old r 0) c || (eqb s r && t)) (or-false (eqb b c)); small = m .small }
+
+pub marked-two : (old mid new : List ℕ) (s b n i0 i1 i2 i3 : ℕ) → 2 < n → n ≤ 4 → BitMarked old s b mid → BitMarked mid s (b + 1) new
+    → Marked old (multiplexer s b (inputsOf n i0 i1 i2 i3)) new
+marked-two old mid new s b n i0 i1 i2 i3 lo hi m p =
+    by-count (λ (k : ℕ). 2 < k → Marked old (multiplexer s b (inputsOf k i0 i1 i2 i3)) new) n (omega arith) hi (λ h. absurd (omega arith)) (λ h. both _ refl) (λ h. both _ refl) lo
+  where
+    group : (w t u v : Bool) → ((w || (t && u)) || (t && v)) ≡ (w || (t && (u || v)))
+    group true t u v = refl
+    group false true u v = refl
+    group false false u v = refl
+
+    both : (ins : List ℕ) → leb (length ins) 2 ≡ false → Marked old (multiplexer s b ins) new
+    both ins e = record {
+      size = p .size ∙ m .size;
+      small = λ f. p .small (m .small f);
+      marks = λ r c l k. rw e (p .marks r c l k ∙ ap (λ (t : Bool). t || (eqb s r && eqb (b + 1) c)) (m .marks r c l k)
+          ∙ group (wordBit (getD old r 0) c) (eqb s r) (eqb b c) (eqb (b + 1) c)
+          ∙ ap (λ (x : ℕ). wordBit (getD old r 0) c || (eqb s r && (eqb b c || eqb x c))) (add-one b));
+    }
+
+-- a shift that stays within a word
+pub one-shifted : (b : ℕ) → b ≤ 31 → 1 * 2 ^ b % 4294967296 ≡ 2 ^ b
+one-shifted b h = let l : 2 ^ b < 2 ^ 32 = pow-lt {i = b} {j = 32} (omega arith) in let e : 1 * 2 ^ b ≡ 2 ^ b = omega arith in rw e (mod-eq-of-lt l)

@@ -1,0 +1,35 @@
+use borrow.Author.Needs.{needs}
+use native.Mathlib.Omega.{arith}
+use Rattle.network.proofs.Nodes.{any-first, any-second, none-of-two, any-third, none-of-three, any-last}
+use Rattle.network.proofs.draft.inputs_outside.Statement.{statement}
+use Rattle.network.proofs.draft.inputs_outside.Tie as tie
+use Rattle.network.proofs.draft.inputs_outside.Reads as reads
+use Rattle.network.proofs.draft.inputs_outside.Lts as lts
+
+-- src/draft.rt:30:9
+returns : tie.Need-returns
+returns c = any-first (c .before .args .n) (c .before .args .count) (c .before .args .a) (c .before .args .b) (c .before .args .c) (c .before .args .d) (search needs) (search needs) (search needs)
+
+-- src/draft.rt:33:9
+returns-2 : tie.Need-returns-2
+returns-2 c = any-second (c .before .before .args .n) (c .before .before .args .count) (c .before .before .args .a) (c .before .before .args .b) (c .before .before .args .c) (c .before .before .args .d) (search needs) (search needs) (search needs) (search needs)
+
+-- src/draft.rt:36:9
+returns-3 : tie.Need-returns-3
+returns-3 c = none-of-two (c .before .before .before .args .n) (c .before .before .before .args .count) (c .before .before .before .args .a) (c .before .before .before .args .b) (c .before .before .before .args .c) (c .before .before .before .args .d) (search needs) (search needs) (search needs) (search needs) (search needs)
+
+-- src/draft.rt:39:9
+returns-4 : tie.Need-returns-4
+returns-4 c = any-third (c .before .before .before .before .args .n) (c .before .before .before .before .args .count) (c .before .before .before .before .args .a) (c .before .before .before .before .args .b) (c .before .before .before .before .args .c) (c .before .before .before .before .args .d) (search needs) (search needs) (search needs) (search needs) (c .before .if3 .left) (search needs)
+
+-- src/draft.rt:42:9
+returns-5 : tie.Need-returns-5
+returns-5 c = none-of-three (c .before .before .before .before .before .args .n) (c .before .before .before .before .before .args .count) (c .before .before .before .before .before .args .a) (c .before .before .before .before .before .args .b) (c .before .before .before .before .before .args .c) (c .before .before .before .before .before .args .d) (search needs) (search needs) (search needs) (search needs) (c .before .before .if3 .left) (search needs) (search needs)
+
+-- src/draft.rt:25:1
+returns-6 : tie.Need-returns-6
+returns-6 c = any-last (c .before .before .before .before .before .args .n) (c .before .before .before .before .before .args .count) (c .before .before .before .before .before .args .a) (c .before .before .before .before .before .args .b) (c .before .before .before .before .before .args .c) (c .before .before .before .before .before .args .d) (search needs) (search needs) (search needs) (search needs) (c .before .before .if3 .left) (search needs) (c .if5 .left)
+
+pub inputs-outside-spec : {M : Type 1} → statement M
+inputs-outside-spec =
+    tie.close (tie.spec returns returns-2 returns-3 returns-4 returns-5 returns-6)

@@ -1,0 +1,20 @@
+use Rattle.network.specs.Reads.{noNetwork}
+use Rattle.network.specs.declared.draft.Tally.{Tally}
+use mathlib.Core.Path.{refl, ap}
+use borrow.Author.Needs.{needs}
+use Rattle.network.proofs.reader.rejected.Statement.{statement}
+use Rattle.network.proofs.reader.rejected.Tie as tie
+use Rattle.network.proofs.reader.rejected.Reads as reads
+use Rattle.network.proofs.reader.rejected.Lts as lts
+use Rattle.network.proofs.reader.empty_tally.Reads as empty-tally-reads
+
+-- src/reader.rt:162:20
+empty-tally-requires : tie.Need-empty-tally-requires
+empty-tally-requires c κs = search needs
+
+-- src/reader.rt:152:1
+returns : tie.Need-returns
+returns c = (refl, ap (λ (t : Tally). record { nodes = noNetwork .nodes; bits = noNetwork .bits; known = noNetwork .known; steering = noNetwork .steering; tally = t }) (c .empty-tally .ensures))
+
+pub rejected-spec : {M : Type 1} → statement M
+rejected-spec = tie.close (tie.spec empty-tally-requires returns)

@@ -1,0 +1,16 @@
+use borrow.Author.Tests.{eq-eqb, ne-eqb}
+use Rattle.network.proofs.start.start_marks.Statement.{statement}
+use Rattle.network.proofs.start.start_marks.Tie as tie
+use Rattle.network.proofs.start.start_marks.Reads as reads
+use Rattle.network.proofs.start.start_marks.Lts as lts
+
+-- src/start.rt:15:9
+returns : tie.Need-returns
+returns c = rw (eq-eqb _ 0 (c .if1 .taken))
+
+-- src/start.rt:11:1
+returns-2 : tie.Need-returns-2
+returns-2 c = rw (ne-eqb _ 0 (c .if1 .left))
+
+pub start-marks-spec : {M : Type 1} → statement M
+start-marks-spec = tie.close (tie.spec returns returns-2)

@@ -1,0 +1,78 @@
+-- What the reader answers.
+-- Assumes nothing.
+use mathlib.Core.Path.{_≡_}
+use mathlib.Core.Bool.{Bool}
+use mathlib.Core.List.{List}
+use Prim.Native.Nat.{ℕ, suc, _≤_, _<_}
+use lib.ListN.{length, getD, replicate}
+use Rattle.model.specs.Result.{Result, ok, refused}
+use Rattle.model.specs.Text.{Bytes, parts, lineEnd}
+use Rattle.model.specs.Network.{Network as ModelNetwork, steers}
+use Rattle.model.specs.NetworkText.{Draft, noLines, lineOf, addLine, readLines, readNetwork}
+use Rattle.path.specs.Layout.{nodesOf, wordBit, configOf}
+use Rattle.network.specs.declared.draft.Tally.{Tally}
+use Rattle.network.specs.declared.add.Added.{Added}
+use Rattle.network.specs.declared.add.Refusal.the-variants.{Nothing, Refused}
+use Rattle.network.specs.declared.reader.Lines.{Lines}
+use Rattle.network.specs.declared.reader.Network.{Network}
+use Rattle.network.specs.declared.reader.Verdict.{Verdict}
+use Rattle.network.specs.declared.reader.Verdict.the-variants.{Accepted, Refused as Rejected}
+use Rattle.network.specs.declared.reader.Reading.{Reading}
+use Rattle.network.specs.Store.{Small}
+use Rattle.network.specs.Draws.{Draws, Follows, Tame, targetsOf, emptyTally}
+
+-- ---- one line, and the lines in turn
+
+abbrev pub LineAdded : List ℕ → List ℕ → List ℕ → List ℕ → List ℕ → Tally → Bytes → ℕ → Added → List ℕ → List ℕ → List ℕ → List ℕ → List ℕ → Type 0
+LineAdded ns bits known steering held t line n r ns′ bits′ known′ steering′ held′ =
+    (d : Draft) → Draws ns bits known steering held t d n
+    → Follows (λ e. Draws ns′ bits′ known′ steering′ held′ (r .tally) e (suc n)) (addLine d n (lineOf line)) (r .refusal)
+
+abbrev pub LinesAre : List ℕ → List ℕ → List ℕ → List ℕ → List ℕ → Result (ℕ × Draft) → Lines → Type 0
+LinesAre ns bits known steering held (ok nd) r = (r .refusal ≡ Nothing) × (r .next ≡ nd .0) × Draws ns bits known steering held (r .tally) (nd .1) (nd .0)
+LinesAre ns bits known steering held (refused number place) r = r .refusal ≡ Refused number place
+
+abbrev pub LinesRead : Bytes → Lines → List ℕ → List ℕ → List ℕ → List ℕ → List ℕ → Type 0
+LinesRead t r ns bits known steering held = LinesAre ns bits known steering held (readLines noLines 1 (parts lineEnd t)) r
+
+-- ---- the record
+
+-- the network that a record is
+abbrev pub networkOf : Network → ModelNetwork
+networkOf r = record {
+  nodes = nodesOf (r .nodes) (r .tally .count);
+  out = r .tally .out;
+  start = configOf (r .nodes) (r .bits) (r .known) (r .tally .count);
+  targets = targetsOf (r .nodes) (r .tally);
+}
+
+-- number and place of a refusal, or the network
+abbrev pub readingBy : Verdict → Network → Result ModelNetwork
+readingBy Accepted r = ok (networkOf r)
+readingBy (Rejected number place) r = refused number place
+
+abbrev pub readingOf : Reading → Result ModelNetwork
+readingOf r = readingBy (r .verdict) (r .network)
+
+-- what an accepted record has besides: array sizes, counts within them, and each segment's word of steering bits.
+-- Free are the numbers of nodes above the count, bits beyond a segment's LEN, and targets beyond their count.
+pub record Filled (r : Network) : Type 0 where
+  pub nodes-size : length (r .nodes) ≡ 1032
+  pub bits-size : length (r .bits) ≡ 129
+  pub known-size : length (r .known) ≡ 129
+  pub steering-size : length (r .steering) ≡ 129
+  pub tame : Tame (r .tally)
+  pub steering-is : (s b : ℕ) → s ≤ 128 → b < 32 → wordBit (getD (r .steering) s 0) b ≡ steers (nodesOf (r .nodes) (r .tally .count)) s b
+  pub steering-small : Small (r .steering)
+
+-- the record beside a refusal
+abbrev pub noNetwork : Network
+noNetwork = record { nodes = replicate 1032 0; bits = replicate 129 0; known = replicate 129 0; steering = replicate 129 0; tally = emptyTally }
+
+abbrev pub FilledIf : Verdict → Network → Type 0
+FilledIf Accepted r = Filled r
+FilledIf (Rejected number place) r = r ≡ noNetwork
+
+pub record IsReading (t : Bytes) (r : Reading) : Type 0 where
+  pub reads : readingOf r ≡ readNetwork t
+  pub filled : FilledIf (r .verdict) (r .network)

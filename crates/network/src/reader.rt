@@ -1,0 +1,214 @@
+// The reader: a network text to the record, or one refusal.
+use crate::add::Added;
+use crate::add::Refusal;
+use crate::add::add_hold;
+use crate::add::add_node;
+use crate::add::add_out;
+use crate::add::add_read;
+use crate::add::add_write;
+use crate::draft::Tally;
+use crate::line::Entry;
+use crate::line::parse;
+use crate::start::fill_start;
+use path::layout::Nodes;
+use path::layout::Words;
+use path::walk::Walked;
+use path::walk::find_path;
+ghost use mathlib.Core.Path.{_≡_};
+ghost use Prim.Native.Nat.{_≤_};
+ghost use lib.ListN.{length};
+ghost use Rattle.model.specs.NetworkText.{noLines};
+ghost use Rattle.network.specs.Draws.{Draws, Drafted, emptyTally};
+ghost use Rattle.network.specs.Reads.{LineAdded, LinesRead, noNetwork, IsReading};
+
+// The record of a network.
+pub struct Network {
+    pub nodes: Nodes,
+    pub bits: Words,
+    pub known: Words,
+    pub steering: Words,
+    pub tally: Tally,
+}
+
+pub enum Verdict {
+    Accepted,
+    Refused(usize, usize),
+}
+
+// The verdict on a text, with the record beside it where the text is accepted.
+pub struct Reading {
+    pub verdict: Verdict,
+    pub network: Network,
+}
+
+// What the lines of a text leave: a refusal or none, the counts and targets, and the number behind the last line.
+pub struct Lines {
+    pub refusal: Refusal,
+    pub tally: Tally,
+    pub next: usize,
+}
+
+fn answer(refusal: Refusal, tally: Tally) -> Added
+    ensures { λ r. ⌜ (r .refusal ≡ refusal) × (r .tally ≡ tally) ⌝ }
+{
+    Added { refusal, tally }
+}
+
+// Line n.
+fn add_line(
+    nodes: &mut Nodes,
+    bits: &mut Words,
+    known: &mut Words,
+    steering: &mut Words,
+    held: &mut [u16; 129],
+    t: Tally,
+    line: &[u8],
+    n: usize,
+) -> Added
+    requires { ⌜ Drafted (now nodes) (now bits) (now known) (now steering) (now held) t n ⌝ }
+    ensures { λ r. ⌜ LineAdded (now (nodes .entry)) (now (bits .entry)) (now (known .entry)) (now (steering .entry)) (now (held .entry)) t (now (line .entry)) n r (now (nodes .exit)) (now (bits .exit)) (now (known .exit)) (now (steering .exit)) (now (held .exit)) ⌝ }
+{
+    let p = parse(line);
+    let start = p.start;
+    let end = p.end;
+    let entry = p.entry;
+    match entry {
+        Entry::Wrong => answer(Refusal::Refused(1, n), t),
+        Entry::Node(x) => add_node(nodes, steering, t, n, x),
+        Entry::Out(k) => add_out(nodes, t, n, k),
+        Entry::Hold(s) => {
+            let refusal = add_hold(nodes, bits, known, held, t, n, s, &line[start..end]);
+            answer(refusal, t)
+        }
+        Entry::Write(s) => add_write(nodes, steering, t, n, s, &line[start..end]),
+        Entry::Read(s) => add_read(nodes, steering, t, n, s),
+    }
+}
+
+// The lines of a text of at most 16,384 bytes, from the empty draft on.
+fn read_lines(
+    text: &[u8],
+    nodes: &mut Nodes,
+    bits: &mut Words,
+    known: &mut Words,
+    steering: &mut Words,
+    held: &mut [u16; 129],
+    empty: Tally,
+) -> Lines
+    requires { ⌜ (length (now text) ≤ 16384) × Draws (now nodes) (now bits) (now known) (now steering) (now held) empty noLines 1 ⌝ }
+    ensures { λ r. ⌜ LinesRead (now (text .entry)) r (now (nodes .exit)) (now (bits .exit)) (now (known .exit)) (now (steering .exit)) (now (held .exit)) ⌝ }
+{
+    let mut tally = empty;
+    let mut at: usize = 0;
+    let mut n: usize = 1;
+    while at < text.len() {
+        let end = text::end_of(text, at, b'\n');
+        if end == text.len() {
+            return Lines {
+                refusal: Refusal::Refused(1, n),
+                tally,
+                next: n,
+            };
+        }
+        let added = add_line(nodes, bits, known, steering, held, tally, &text[at..end], n);
+        let refusal = added.refusal;
+        tally = added.tally;
+        match refusal {
+            Refusal::Refused(number, place) => {
+                return Lines {
+                    refusal: Refusal::Refused(number, place),
+                    tally,
+                    next: n,
+                };
+            }
+            Refusal::Nothing => {}
+        }
+        at = end + 1;
+        n += 1;
+    }
+    Lines {
+        refusal: Refusal::Nothing,
+        tally,
+        next: n,
+    }
+}
+
+fn empty_tally() -> Tally
+    ensures { λ r. ⌜ r ≡ emptyTally ⌝ }
+{
+    Tally {
+        count: 0,
+        total: 0,
+        has_out: false,
+        out: 0,
+        target_count: 0,
+        target_segment: [0; 4],
+        target_write: [0; 4],
+        target_bits: [0; 4],
+    }
+}
+
+// A refusal, with an empty record.
+fn rejected(number: usize, place: usize) -> Reading
+    ensures { λ r. ⌜ (r .verdict ≡ Verdict.Refused number place) × (r .network ≡ noNetwork) ⌝ }
+{
+    Reading {
+        verdict: Verdict::Refused(number, place),
+        network: Network {
+            nodes: [0; 1032],
+            bits: [0; 129],
+            known: [0; 129],
+            steering: [0; 129],
+            tally: empty_tally(),
+        },
+    }
+}
+
+// A network text: the record, or one refusal, 1 to 9.
+pub fn read_network(text: &[u8]) -> Reading
+    ensures { λ r. ⌜ IsReading (now (text .entry)) r ⌝ }
+{
+    if 16384 < text.len() {
+        return rejected(3, 0);
+    }
+    let mut nodes = [0u16; 1032];
+    let mut bits = [0; 129];
+    let mut known = [0; 129];
+    let mut steering = [0; 129];
+    let mut held = [0u16; 129];
+    let lines = read_lines(
+        text,
+        &mut nodes,
+        &mut bits,
+        &mut known,
+        &mut steering,
+        &mut held,
+        empty_tally(),
+    );
+    let refusal = lines.refusal;
+    match refusal {
+        Refusal::Refused(number, place) => {
+            return rejected(number, place);
+        }
+        Refusal::Nothing => {}
+    }
+    let tally = lines.tally;
+    if !tally.has_out {
+        return rejected(4, lines.next);
+    }
+    fill_start(&mut bits, &mut known, &steering, &held, tally.count);
+    let mut way = [0u16; 128];
+    match find_path(&nodes, &bits, &known, tally.out, &mut way) {
+        Walked::Stop(m) => rejected(9, m),
+        Walked::Path(_) => Reading {
+            verdict: Verdict::Accepted,
+            network: Network {
+                nodes,
+                bits,
+                known,
+                steering,
+                tally,
+            },
+        },
+    }
+}

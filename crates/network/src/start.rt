@@ -1,0 +1,55 @@
+// The start bits of segments without a `hold` line: all 0 in steering segments, all unknown in others.
+use path::layout::Word;
+use path::layout::Words;
+ghost use lib.ListN.{length};
+ghost use mathlib.Core.Path.{_≡_};
+ghost use mathlib.Core.Bool.{cond};
+ghost use lib.Dec.{eqb};
+ghost use Prim.Native.Nat.{_≤_};
+ghost use Rattle.network.specs.Start.{OneFilled, StartFilled};
+
+// The word of known marks that a segment starts with, by its word of steering bits.
+fn start_marks(steering: Word) -> Word
+    ensures { λ r. ⌜ r ≡ cond (eqb steering 0) 0 4294967295 ⌝ }
+{
+    if steering == 0 {
+        return 0;
+    }
+    4294967295
+}
+
+// The words of segment s, unless a `hold` line gave them.
+fn fill_one<'a>(
+    bits: &mut Words,
+    known: &mut Words,
+    steering: &'a Words,
+    held: &'a [u16; 129],
+    s: usize,
+)
+    requires { ⌜ (s ≤ 128) × (length (now bits) ≡ 129) × (length (now known) ≡ 129) ⌝ }
+    ensures { λ _. ⌜ OneFilled (now (bits .entry)) (now (known .entry)) (now (steering .entry)) (now (held .entry)) s (now (bits .exit)) (now (known .exit)) ⌝ }
+{
+    if held[s] == 1 {
+        return;
+    }
+    bits[s] = 0;
+    known[s] = start_marks(steering[s]);
+}
+
+// The words of all segments 1 to count.
+pub fn fill_start<'a>(
+    bits: &mut Words,
+    known: &mut Words,
+    steering: &'a Words,
+    held: &'a [u16; 129],
+    count: usize,
+)
+    requires { ⌜ (count ≤ 128) × (length (now bits) ≡ 129) × (length (now known) ≡ 129) ⌝ }
+    ensures { λ _. ⌜ StartFilled (now (bits .entry)) (now (known .entry)) (now (steering .entry)) (now (held .entry)) count (now (bits .exit)) (now (known .exit)) ⌝ }
+{
+    let mut s: usize = 1;
+    while s <= count {
+        fill_one(bits, known, steering, held, s);
+        s += 1;
+    }
+}
