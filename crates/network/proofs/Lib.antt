@@ -8,5 +8,6 @@ pub mod AddingOut
 pub mod AddingHolds
 pub mod AddingTargets
 pub mod Starting
+pub mod Counting
 pub mod ReadingLines
 pub mod ReadingNetwork

@@ -6,19 +6,19 @@ use mathlib.Core.Option.{Option, none, some}
 use mathlib.Core.List.{List, [], _∷_}
 use Prim.Native.Nat.{ℕ, zero, suc, _+_, _*_, _/_, _%_, _^_, _≤_, _<_}
 use native.Mathlib.Omega.{arith}
-use lib.ListN.{length, getD, replicate, length-replicate}
+use lib.ListN.{length, getD, take, replicate, length-replicate}
 use lib.Dec.{eqb, leb, ltb}
 use borrow.Author.Tests.{lt-ltb, le-ltb}
 use Rattle.model.specs.Result.{Result, ok, refused, refuseIf, andThen}
 use Rattle.model.specs.Text.{Bytes, Trit, parts, lineEnd}
 use Rattle.model.specs.Network.{Node, Config, Target, Network as ModelNetwork, totalBits, noNode, steers, heldOr, startOf}
-use Rattle.model.specs.Path.{Walk, path, stop, walk, walkFrom, nodeOf, bitOf}
+use Rattle.model.specs.Path.{Walk, path, stop, walk, walkFrom, nodeOf, bitOf, pathOf, pathLength}
 use Rattle.model.specs.NetworkText.{Draft, noLines, isHeld, networkOf, ifStarts, finish, readLines, readNetwork}
 use Rattle.model.proofs.Lists.{none-some, some-same}
 use Rattle.model.proofs.WellFormed.{GoodNode}
 use Rattle.model.proofs.Accepted.{good-node, no-bad}
 use Rattle.model.proofs.Reading.{Sound, Stage, no-out, behind-out, sound-start}
-use Rattle.path.specs.Layout.{nodesOf, wordBit, configOf, Safe}
+use Rattle.path.specs.Layout.{nodesOf, wordBit, configOf, scanPath}
 use Rattle.path.specs.Answers.{Found, Walkable, told}
 use Rattle.path.specs.declared.walk.Walked.{Walked}
 use Rattle.path.specs.declared.walk.Walked.the-variants.{Path, Stop as Stopped}
@@ -33,9 +33,11 @@ use Rattle.network.specs.declared.reader.Reading.{Reading}
 use Rattle.network.specs.Store.{Small}
 use Rattle.network.specs.Draws.{feedsOf, Draws, emptyTally}
 use Rattle.network.specs.Start.{StartFilled}
+use Rattle.network.specs.Counts.{countFrom}
 use Rattle.network.specs.Reads.{LinesAre, LinesRead, networkOf as recorded, readingBy, noNetwork, FilledIf, Filled, IsReading}
 use Rattle.network.proofs.Lines.{zero-at}
-use Rattle.network.proofs.Drawing.{drawn-out, drawn-count}
+use Rattle.network.proofs.Drawing.{drawn-out, drawn-count, drawn-words}
+use Rattle.network.proofs.Counting.{counts-steering}
 use Rattle.network.proofs.Starting.{start-config}
 
 -- ---- no lines
@@ -145,11 +147,14 @@ module _ (ns bits known steering held : List ℕ) (y : Tally) (d : Draft) (n : �
     start-is : configOf ns bits′ known′ (y .count) ≡ startOf (d .nodes) (d .holds)
     start-is = start-config ns bits known steering held y d n w (drawn-out ns bits known steering held y d n w ∙ q) bits′ known′ f
 
+    stored-walk : walkFrom (nodeOf (nodesOf ns (y .count))) (bitOf (configOf ns bits′ known′ (y .count))) (y .out) (y .out) ≡ told ns way r
+    stored-walk = found-config ns (y .count) (w .tame .nodes-fit) stored-good bits′ known′ (y .out) r way out-within found
+
     start-walk : walk (networkOf d (y .out)) (networkOf d (y .out) .start) ≡ told ns way r
     start-walk =
         ap (λ (c : Config). walkFrom (nodeOf (d .nodes)) (bitOf c) (y .out) (y .out)) (sym start-is)
         ∙ ap (λ (l : List Node). walkFrom (nodeOf l) (bitOf (configOf ns bits′ known′ (y .count))) (y .out) (y .out)) (sym (w .nodes-are))
-        ∙ found-config ns (y .count) (w .tame .nodes-fit) stored-good bits′ known′ (y .out) r way out-within found
+        ∙ stored-walk
 
     finished : finish n d (d .feeds) ≡ ifStarts (networkOf d (y .out)) (told ns way r)
     finished = ap (finish n d) fed ∙ ap (ifStarts (networkOf d (y .out))) start-walk
@@ -158,26 +163,33 @@ module _ (ns bits known steering held : List ℕ) (y : Tally) (d : Draft) (n : �
     pub start-stops : (m : ℕ) → r ≡ Stopped m → finish n d (d .feeds) ≡ refused 9 m
     start-stops m e = finished ∙ ap (λ (x : Walked). ifStarts (networkOf d (y .out)) (told ns way x)) e
 
-    abbrev Written : Network
-    Written = record { nodes = ns; bits = bits′; known = known′; steering = steering; tally = y }
+    module _ (count len : ℕ) where
+      abbrev Written : Network
+      Written = record { nodes = ns; bits = bits′; known = known′; steering = steering; tally = y; «steering_count» = count; «start_length» = len }
 
-    start-found : (k : ℕ) → r ≡ Path k → finish n d (d .feeds) ≡ ok (recorded Written)
-    start-found k e =
-        finished ∙ ap (λ (x : Walked). ifStarts (networkOf d (y .out)) (told ns way x)) e
-        ∙ ap (λ (c : Config). ok record { nodes = d .nodes; out = y .out; start = c; targets = d .targets }) (sym start-is)
-        ∙ ap (λ (l : List Node). ok record { nodes = l; out = y .out; start = configOf ns bits′ known′ (y .count); targets = d .targets }) (sym (w .nodes-are))
-        ∙ ap (λ (l : List Target). ok record { nodes = nodesOf ns (y .count); out = y .out; start = configOf ns bits′ known′ (y .count); targets = l }) (sym (w .targets-are))
+      start-found : (k : ℕ) → r ≡ Path k → finish n d (d .feeds) ≡ ok (recorded Written)
+      start-found k e =
+          finished ∙ ap (λ (x : Walked). ifStarts (networkOf d (y .out)) (told ns way x)) e
+          ∙ ap (λ (c : Config). ok record { nodes = d .nodes; out = y .out; start = c; targets = d .targets }) (sym start-is)
+          ∙ ap (λ (l : List Node). ok record { nodes = l; out = y .out; start = configOf ns bits′ known′ (y .count); targets = d .targets }) (sym (w .nodes-are))
+          ∙ ap (λ (l : List Target). ok record { nodes = nodesOf ns (y .count); out = y .out; start = configOf ns bits′ known′ (y .count); targets = l }) (sym (w .targets-are))
 
-    pub reading-accepted : (t : Bytes) (k : ℕ) → readNetwork t ≡ finish n d (d .feeds) → r ≡ Path k → IsReading t record { verdict = Accepted; network = Written }
-    reading-accepted t k g e = record {
-      reads = sym (g ∙ start-found k e);
-      filled = record {
-        nodes-size = w .sized .nodes;
-        bits-size = f .bits-size ∙ w .sized .bit-words;
-        known-size = f .known-size ∙ w .sized .known-words;
-        steering-size = w .sized .steering-words;
-        tame = w .tame;
-        steering-is = λ s b l m. w .steering-is s b l m ∙ ap (λ (x : List Node). steers x s b) (sym (w .nodes-are));
-        steering-small = w .steering-small;
-      };
-    }
+      same-steering : (s b : ℕ) → s ≤ 128 → b < 32 → wordBit (getD steering s 0) b ≡ steers (nodesOf ns (y .count)) s b
+      same-steering s b l m = w .steering-is s b l m ∙ ap (λ (x : List Node). steers x s b) (sym (w .nodes-are))
+
+      pub reading-accepted : (t : Bytes) (k : ℕ) → readNetwork t ≡ finish n d (d .feeds) → r ≡ Path k
+          → count ≡ countFrom ns steering 1 (y .count) → len ≡ pathLength (scanPath ns (take k way)) → IsReading t record { verdict = Accepted; network = Written }
+      reading-accepted t k g e a b = record {
+        reads = sym (g ∙ start-found k e);
+        filled = record {
+          nodes-size = w .sized .nodes;
+          bits-size = f .bits-size ∙ w .sized .bit-words;
+          known-size = f .known-size ∙ w .sized .known-words;
+          steering-size = w .sized .steering-words;
+          tame = w .tame;
+          steering-is = same-steering;
+          steering-small = w .steering-small;
+          counted = a ∙ counts-steering ns steering (y .count) (w .tame .nodes-fit) (drawn-words ns bits known steering held y d n w) same-steering;
+          start-long = b ∙ ap (λ (x : Walk). pathLength (pathOf x)) (sym (stored-walk ∙ ap (told ns way) e));
+        };
+      }

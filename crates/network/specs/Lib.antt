@@ -4,4 +4,5 @@ pub mod Store
 pub mod Draws
 pub mod Added
 pub mod Start
+pub mod Counts
 pub mod Reads

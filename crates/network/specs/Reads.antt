@@ -7,7 +7,8 @@ use Prim.Native.Nat.{ℕ, suc, _≤_, _<_}
 use lib.ListN.{length, getD, replicate}
 use Rattle.model.specs.Result.{Result, ok, refused}
 use Rattle.model.specs.Text.{Bytes, parts, lineEnd}
-use Rattle.model.specs.Network.{Network as ModelNetwork, steers}
+use Rattle.model.specs.Network.{Network as ModelNetwork, steers, steeringBits}
+use Rattle.model.specs.Path.{pathIn, pathLength}
 use Rattle.model.specs.NetworkText.{Draft, noLines, lineOf, addLine, readLines, readNetwork}
 use Rattle.path.specs.Layout.{nodesOf, wordBit, configOf}
 use Rattle.network.specs.declared.draft.Tally.{Tally}
@@ -54,7 +55,7 @@ readingBy (Rejected number place) r = refused number place
 abbrev pub readingOf : Reading → Result ModelNetwork
 readingOf r = readingBy (r .verdict) (r .network)
 
--- what an accepted record has besides: array sizes, counts within them, and each segment's word of steering bits.
+-- what an accepted record has besides: array sizes, counts within them, each segment's word of steering bits, and two counts.
 -- Free are the numbers of nodes above the count, bits beyond a segment's LEN, and targets beyond their count.
 pub record Filled (r : Network) : Type 0 where
   pub nodes-size : length (r .nodes) ≡ 1032
@@ -64,10 +65,12 @@ pub record Filled (r : Network) : Type 0 where
   pub tame : Tame (r .tally)
   pub steering-is : (s b : ℕ) → s ≤ 128 → b < 32 → wordBit (getD (r .steering) s 0) b ≡ steers (nodesOf (r .nodes) (r .tally .count)) s b
   pub steering-small : Small (r .steering)
+  pub counted : r .«steering_count» ≡ length (steeringBits (networkOf r .nodes))
+  pub start-long : r .«start_length» ≡ pathLength (pathIn (networkOf r) (networkOf r .start))
 
 -- the record beside a refusal
 abbrev pub noNetwork : Network
-noNetwork = record { nodes = replicate 1032 0; bits = replicate 129 0; known = replicate 129 0; steering = replicate 129 0; tally = emptyTally }
+noNetwork = record { nodes = replicate 1032 0; bits = replicate 129 0; known = replicate 129 0; steering = replicate 129 0; tally = emptyTally; «steering_count» = 0; «start_length» = 0 }
 
 abbrev pub FilledIf : Verdict → Network → Type 0
 FilledIf Accepted r = Filled r

@@ -6,12 +6,14 @@ use crate::add::add_node;
 use crate::add::add_out;
 use crate::add::add_read;
 use crate::add::add_write;
+use crate::counts::steering_count;
 use crate::draft::Tally;
 use crate::line::Entry;
 use crate::line::parse;
 use crate::start::fill_start;
 use path::layout::Nodes;
 use path::layout::Words;
+use path::places::path_length;
 use path::walk::Walked;
 use path::walk::find_path;
 ghost use mathlib.Core.Path.{_≡_};
@@ -21,13 +23,15 @@ ghost use Rattle.model.specs.NetworkText.{noLines};
 ghost use Rattle.network.specs.Draws.{Draws, Drafted, emptyTally};
 ghost use Rattle.network.specs.Reads.{LineAdded, LinesRead, noNetwork, IsReading};
 
-// The record of a network.
+// The record of a network; its last two counts are of the distinct steering bits and of the bits of the start's path.
 pub struct Network {
     pub nodes: Nodes,
     pub bits: Words,
     pub known: Words,
     pub steering: Words,
     pub tally: Tally,
+    pub steering_count: usize,
+    pub start_length: usize,
 }
 
 pub enum Verdict {
@@ -160,6 +164,8 @@ fn rejected(number: usize, place: usize) -> Reading
             known: [0; 129],
             steering: [0; 129],
             tally: empty_tally(),
+            steering_count: 0,
+            start_length: 0,
         },
     }
 }
@@ -200,15 +206,21 @@ pub fn read_network(text: &[u8]) -> Reading
     let mut way = [0u16; 128];
     match find_path(&nodes, &bits, &known, tally.out, &mut way) {
         Walked::Stop(m) => rejected(9, m),
-        Walked::Path(_) => Reading {
-            verdict: Verdict::Accepted,
-            network: Network {
-                nodes,
-                bits,
-                known,
-                steering,
-                tally,
-            },
-        },
+        Walked::Path(n) => {
+            let count = steering_count(&nodes, &steering, tally.count);
+            let length = path_length(&nodes, &way, n);
+            Reading {
+                verdict: Verdict::Accepted,
+                network: Network {
+                    nodes,
+                    bits,
+                    known,
+                    steering,
+                    tally,
+                    steering_count: count,
+                    start_length: length,
+                },
+            }
+        }
     }
 }

@@ -1,0 +1,123 @@
+// Plan texts: their form, the line finder, and the writer of a line.
+ghost use mathlib.Core.Path.{_≡_};
+ghost use mathlib.Core.List.{map};
+ghost use Prim.Native.Nat.{_+_, _≤_};
+ghost use lib.ListN.{length, drop};
+ghost use Rattle.model.specs.Tap.{bitByte};
+ghost use Rattle.plan_text.specs.Form.{formOf, planForm};
+ghost use Rattle.plan_text.specs.Lines.{bitRun, lineFor, nextFrom};
+ghost use Rattle.plan_text.specs.Writing.{writeAt, lineText};
+
+// The most bytes and lines of a plan text.
+const MOST_BYTES: usize = 64080;
+
+const MOST_LINES: usize = 16;
+
+// The form of a plan text: the count of its lines, or the place of refusal 14.
+pub enum Form {
+    Good(usize),
+    Refused(usize),
+}
+
+// A line of good form by the place behind it, or bad form.
+enum Line {
+    Next(usize),
+    Bad,
+}
+
+// The place of the first byte at or behind a place that is neither `0` nor `1`, or the length where there is none.
+fn bits_end(s: &[u8], at: usize) -> usize
+    requires { ⌜ at ≤ length (now s) ⌝ }
+    ensures { λ r. ⌜ r ≡ at + length (bitRun (drop at (now (s .entry)))) ⌝ }
+{
+    let mut i = at;
+    while i < s.len() {
+        let b = s[i];
+        match b {
+            b'0'..=b'1' => i += 1,
+            _ => return i,
+        }
+    }
+    i
+}
+
+// The line that starts at a place.
+fn line_at(plan: &[u8], at: usize) -> Line
+    requires { ⌜ at ≤ length (now plan) ⌝ }
+    ensures { λ r. ⌜ lineFor r ≡ nextFrom (now (plan .entry)) at ⌝ }
+{
+    if plan.len() - at < 4 {
+        return Line::Bad;
+    }
+    let bits = at + 4;
+    if !text::equal(&plan[at..bits], b"csu\t") {
+        return Line::Bad;
+    }
+    let end = bits_end(plan, bits);
+    if end == plan.len() {
+        return Line::Bad; // unended
+    }
+    if plan[end] != b'\n' {
+        return Line::Bad;
+    }
+    Line::Next(end + 1)
+}
+
+// The form of a plan text, each byte looked at once.
+pub fn check_form(plan: &[u8]) -> Form
+    ensures { λ r. ⌜ formOf r ≡ planForm (now (plan .entry)) ⌝ }
+{
+    if MOST_BYTES < plan.len() {
+        return Form::Refused(0);
+    }
+    let mut at: usize = 0;
+    let mut n: usize = 0;
+    while at < plan.len() {
+        if n == MOST_LINES {
+            return Form::Refused(n + 1);
+        }
+        let line = line_at(plan, at);
+        let Line::Next(next) = line else {
+            return Form::Refused(n + 1);
+        };
+        at = next;
+        n += 1;
+    }
+    Form::Good(n)
+}
+
+// The line finder: the bits of the line that starts at a place, as a part of the plan text.
+pub fn bits_at(plan: &[u8], at: usize) -> &[u8]
+    requires { ⌜ at + 4 ≤ length (now plan) ⌝ }
+    ensures { λ r. ⌜ now r ≡ map bitByte (bitRun (drop (at + 4) (now (plan .entry)))) ⌝ }
+{
+    let end = bits_end(plan, at + 4);
+    let start = at + 4;
+    &plan[start..end]
+}
+
+// Bytes written into a buffer from a place on; the place behind them.
+pub fn put(buf: &mut [u8], at: usize, new: &[u8]) -> usize
+    requires { ⌜ at + length (now new) ≤ length (now buf) ⌝ }
+    ensures { λ r. ⌜ r ≡ at + length (now (new .entry)) ⌝ }
+    ensures { λ r. ⌜ now (buf .exit) ≡ writeAt at (now (new .entry)) (now (buf .entry)) ⌝ }
+{
+    let n = new.len();
+    let mut i: usize = 0;
+    while i < n {
+        buf[at + i] = new[i];
+        i += 1;
+    }
+    at + n
+}
+
+// The line of an operation, given by its bits as `0` and `1`, written from a place on; the place behind it.
+pub fn write_line(buf: &mut [u8], at: usize, bits: &[u8]) -> usize
+    requires { ⌜ at + (5 + length (now bits)) ≤ length (now buf) ⌝ }
+    ensures { λ r. ⌜ r ≡ at + (5 + length (now (bits .entry))) ⌝ }
+    ensures { λ r. ⌜ now (buf .exit) ≡ writeAt at (lineText (now (bits .entry))) (now (buf .entry)) ⌝ }
+{
+    let start = put(buf, at, b"csu\t");
+    let end = put(buf, start, bits);
+    put(buf, end, b"\n")
+}

@@ -1,0 +1,57 @@
+-- The controller's states by number, and the clock machine over them.
+-- Assumes nothing.
+use mathlib.Core.Bool.{Bool, cond}
+use mathlib.Core.List.{List, [], _∷_}
+use Prim.Native.Nat.{ℕ}
+use lib.ListN.{getD}
+use lib.Dec.{eqb}
+use Rattle.model.specs.Text.{Bytes}
+use Rattle.model.specs.Tap.{Tap, reset, idle, selectDR, captureDR, shiftDR, exit1DR, pauseDR, exit2DR, updateDR, selectIR, captureIR, shiftIR, exit1IR, pauseIR, exit2IR, updateIR, next}
+
+-- "The controller's sixteen states", in document 01's order
+abbrev pub states : List Tap
+states =
+    reset ∷ idle ∷ selectDR ∷ captureDR ∷ shiftDR ∷ exit1DR ∷ pauseDR ∷ exit2DR ∷ updateDR
+    ∷ selectIR ∷ captureIR ∷ shiftIR ∷ exit1IR ∷ pauseIR ∷ exit2IR ∷ updateIR ∷ []
+
+abbrev pub stateAt : ℕ → Tap
+stateAt n = getD states n reset
+
+abbrev pub number : Tap → ℕ
+number reset = 0
+number idle = 1
+number selectDR = 2
+number captureDR = 3
+number shiftDR = 4
+number exit1DR = 5
+number pauseDR = 6
+number exit2DR = 7
+number updateDR = 8
+number selectIR = 9
+number captureIR = 10
+number shiftIR = 11
+number exit1IR = 12
+number pauseIR = 13
+number exit2IR = 14
+number updateIR = 15
+
+-- TMS by its byte: `1` is 1
+abbrev pub isOne : ℕ → Bool
+isOne b = eqb b 49
+
+abbrev pub columnOf : ℕ → ℕ
+columnOf b = cond (isOne b) 1 0
+
+-- the next state by numbers
+abbrev pub nextNumber : ℕ → Bool → ℕ
+nextNumber state tms = number (next (stateAt state) tms)
+
+-- the state after these clocks
+unfoldable pub stateAfter : Tap → List Bool → Tap
+stateAfter state [] = state
+stateAfter state (tms ∷ clocks) = stateAfter (next state tms) clocks
+
+-- the state's number after the clocks of these TMS bytes, by a table with a row for each state
+unfoldable pub runOver : List (List ℕ) → ℕ → Bytes → ℕ
+runOver table state [] = state
+runOver table state (b ∷ tms) = runOver table (getD (getD table state []) (columnOf b) 0) tms
