@@ -189,6 +189,7 @@ module _ (ns bits known steering held : List ℕ) (y : Tally) (d : Draft) (n : �
           tame = w .tame;
           steering-is = same-steering;
           steering-small = w .steering-small;
+          totals = w .total-is ∙ ap totalBits (sym (w .nodes-are));
           counted = a ∙ counts-steering ns steering (y .count) (w .tame .nodes-fit) (drawn-words ns bits known steering held y d n w) same-steering;
           start-long = b ∙ ap (λ (x : Walk). pathLength (pathOf x)) (sym (stored-walk ∙ ap (told ns way) e));
         };

@@ -7,7 +7,7 @@ use Prim.Native.Nat.{ℕ, suc, _≤_, _<_}
 use lib.ListN.{length, getD, replicate}
 use Rattle.model.specs.Result.{Result, ok, refused}
 use Rattle.model.specs.Text.{Bytes, parts, lineEnd}
-use Rattle.model.specs.Network.{Network as ModelNetwork, steers, steeringBits}
+use Rattle.model.specs.Network.{Network as ModelNetwork, totalBits, steers, steeringBits}
 use Rattle.model.specs.Path.{pathIn, pathLength}
 use Rattle.model.specs.NetworkText.{Draft, noLines, lineOf, addLine, readLines, readNetwork}
 use Rattle.path.specs.Layout.{nodesOf, wordBit, configOf}
@@ -55,7 +55,7 @@ readingBy (Rejected number place) r = refused number place
 abbrev pub readingOf : Reading → Result ModelNetwork
 readingOf r = readingBy (r .verdict) (r .network)
 
--- what an accepted record has besides: array sizes, counts within them, each segment's word of steering bits, and two counts.
+-- what an accepted record has besides: array sizes, counts within them, each segment's word of steering bits, and three counts.
 -- Free are the numbers of nodes above the count, bits beyond a segment's LEN, and targets beyond their count.
 pub record Filled (r : Network) : Type 0 where
   pub nodes-size : length (r .nodes) ≡ 1032
@@ -65,6 +65,7 @@ pub record Filled (r : Network) : Type 0 where
   pub tame : Tame (r .tally)
   pub steering-is : (s b : ℕ) → s ≤ 128 → b < 32 → wordBit (getD (r .steering) s 0) b ≡ steers (nodesOf (r .nodes) (r .tally .count)) s b
   pub steering-small : Small (r .steering)
+  pub totals : r .tally .total ≡ totalBits (networkOf r .nodes)
   pub counted : r .«steering_count» ≡ length (steeringBits (networkOf r .nodes))
   pub start-long : r .«start_length» ≡ pathLength (pathIn (networkOf r) (networkOf r .start))
 

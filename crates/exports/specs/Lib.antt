@@ -1,0 +1,2 @@
+-- What the calls under C names answer.
+pub mod Numbers

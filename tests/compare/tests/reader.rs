@@ -1,0 +1,81 @@
+//! The proved reader answers as the plain Rust version does.
+
+use penthluk_compare::{read, read_line};
+use penthluk_reference::generate::cases::draw_network_text;
+use penthluk_reference::generate::random::Random;
+use penthluk_reference::programs;
+
+const TEXTS: u64 = 120_000;
+
+#[track_caller]
+fn compare(text: &[u8]) -> usize {
+    let answer = read(text);
+    let line = read_line(answer);
+    let expected = programs::read(text);
+    assert_eq!(
+        String::from_utf8_lossy(&line),
+        String::from_utf8_lossy(&expected),
+        "{:?}",
+        String::from_utf8_lossy(text)
+    );
+    answer[0]
+}
+
+/// Same number and place, same counts, and every refusal comes.
+#[test]
+fn generated_texts() {
+    let mut counts = [0usize; 10];
+    for seed in 0..TEXTS {
+        counts[compare(&draw_network_text(&mut Random::new(seed)))] += 1;
+    }
+    assert!(counts.iter().all(|&count| count as u64 >= TEXTS / 1_000), "{counts:?}");
+}
+
+/// Every text of at most two lines from a few words, and every cut of a whole text.
+#[test]
+fn short_texts() {
+    let lines = [
+        "",
+        "out\t0\n",
+        "out\t1\n",
+        "seg\t0\t1\ts\n",
+        "seg\t0\t32\tp\n",
+        "seg\t0\t33\ts\n",
+        "seg\t0\t01\ts\n",
+        "mux\t1\t0\t0\t0\n",
+        "mux\t2\t0\t0\t1\n",
+        "hold\t1\tX\n",
+        "write\t1\t1\n",
+        "read\t1\n",
+        "csu\t0\n",
+        "\n",
+        "out\t0",
+        "out\t0\r\n",
+        "out \t0\n",
+        "seg\t0\t1\ts\t\n",
+    ];
+    for a in lines {
+        for b in lines {
+            for c in lines {
+                compare(format!("{a}{b}{c}").as_bytes());
+            }
+        }
+    }
+    let whole = b"seg\t0\t2\ts\nseg\t0\t2\ts\nmux\t4\t0\t1\t2\nseg\t3\t1\ts\nout\t4\nhold\t1\t1X\nread\t1\nwrite\t2\t10\n";
+    for end in 0..=whole.len() {
+        compare(&whole[..end]);
+    }
+}
+
+/// Texts about as long as a text may be.
+#[test]
+fn long_texts() {
+    for length in [16_383, 16_384, 16_385, 16_386, 70_000] {
+        for byte in [b'0', b'\n', b'\t', 0, 255] {
+            compare(&vec![byte; length]);
+        }
+        let line = b"seg\t0\t1\ts\n";
+        let text: Vec<u8> = line.iter().copied().cycle().take(length).collect();
+        compare(&text);
+    }
+}
