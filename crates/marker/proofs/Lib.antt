@@ -1,0 +1,7 @@
+-- Laws of the marker: the operations in turn, and the targets after them.
+pub mod Records
+pub mod Noting
+pub mod Running
+pub mod Rows
+pub mod Judging
+pub mod Verdicts

@@ -1,0 +1,123 @@
+-- Laws of the whole mark: what each ending says of the model's `mark`.
+-- Assumes nothing.
+use mathlib.Core.Path.{_≡_, refl, sym, ap, _∙_, subst}
+use mathlib.Core.List.{List, []}
+use Prim.Native.Nat.{ℕ}
+use native.Mathlib.Omega.{arith}
+use lib.ListN.{length}
+use Rattle.model.specs.Result.{Result, ok, refused, andThen}
+use Rattle.model.specs.Text.{Bytes}
+use Rattle.model.specs.Network.{Config, Network as ModelNetwork}
+use Rattle.model.specs.Path.{ScanPath, Walk, path, stop, walk}
+use Rattle.model.specs.Plan.{Plan}
+use Rattle.model.specs.PlanText.{readPlan}
+use Rattle.model.specs.NetworkText.{readNetwork}
+use Rattle.model.specs.Tap.{planClocks}
+use Rattle.model.specs.Mark.{Got, Pass, Run, targetsFrom, passed, byStart, markPlan, mark}
+use Rattle.model.proofs.Lists.{not-ok}
+use Rattle.model.proofs.PlanTexts.{clocks-bytes}
+use Rattle.path.specs.Answers.{Sized}
+use Rattle.plan_text.proofs.Forms.{GoodText}
+use Rattle.network.specs.declared.reader.Network.{Network}
+use Rattle.network.specs.Draws.{targetsOf}
+use Rattle.network.specs.Reads.{networkOf}
+use Rattle.marker.specs.declared.operations.Ran.{Ran}
+use Rattle.marker.specs.declared.operations.Ran.the-variants.{Done, Refused}
+use Rattle.marker.specs.declared.targets.Mark.{Mark}
+use Rattle.marker.specs.Marks.{markOf, refusedMark, RowsFor}
+use Rattle.marker.specs.Targets.{Reached, Judgeable, Judges}
+use Rattle.marker.specs.Operations.{configAt, RanAs, Starts, Startable, fromStart, Runs}
+use Rattle.marker.proofs.Records.{Recorded, TargetSegment, target-segment}
+
+-- ---- refusals of the texts
+
+pub rows-refused : (m : Mark) (number place : ℕ) → m ≡ refusedMark number place → RowsFor (m .verdict) (m .gots)
+rows-refused m number place e = subst (λ (x : Mark). RowsFor (x .verdict) (x .gots)) (sym e) refl
+
+module _ (n p : Bytes) where
+  pub network-refused : (number place : ℕ) → readNetwork n ≡ refused number place → refused number place ≡ mark n p
+  unfolding mark
+  network-refused number place e = rw e
+
+  pub plan-refused : (net : ModelNetwork) (place : ℕ) → readNetwork n ≡ ok net → readPlan p ≡ refused 14 place → refused 14 place ≡ mark n p
+  unfolding mark
+  plan-refused net place e f = rw (e, f)
+
+  texts-read : (net : ModelNetwork) (plan : Plan) → readNetwork n ≡ ok net → readPlan p ≡ ok plan → mark n p ≡ markPlan net plan
+  unfolding mark
+  texts-read net plan e f = rw (e, f)
+
+-- ---- the operations, then the targets
+
+abbrev thenTargets : ModelNetwork → Plan → Run → Result Pass
+thenTargets net plan r = andThen (targetsFrom 1 (r .paths) (r .last) (net .targets)) (passed plan)
+
+by-run : (net : ModelNetwork) (plan : Plan) → markPlan net plan ≡ andThen (fromStart net plan (walk net (net .start))) (thenTargets net plan)
+unfolding markPlan
+by-run net plan = go (walk net (net .start))
+  where
+    go : (w : Walk) → byStart net plan w ≡ andThen (fromStart net plan w) (thenTargets net plan)
+    go (path p) = refl
+    go (stop m) = refl
+
+module _ (n p : Bytes) (r : Network) (c : Recorded n r) (lines : ℕ) (good : GoodText p lines) where
+  abbrev net : ModelNetwork
+  net = networkOf r
+
+  -- what the run asks
+  pub starts : Starts net (r .nodes) (r .tally) (r .bits) (r .known)
+  starts = record { stored = c .stored; start = refl; tame = c .filled .tame; sized = record { words = c .filled .bits-size; marks = c .filled .known-size } }
+
+  module _ (ran : Ran) (bits known first places : List ℕ) (runs : Runs (r .nodes) (r .tally) p (r .bits) (r .known) ran bits known first places) where
+    abbrev whole : Result Run
+    whole = fromStart net (good .plan) (walk net (net .start))
+
+    ran-as : RanAs (r .nodes) (r .tally) ran bits known first places whole
+    ran-as = runs net (good .plan) (good .reads) starts
+
+    marks-by : mark n p ≡ andThen whole (thenTargets net (good .plan))
+    marks-by = texts-read n p net (good .plan) (c .reads) (good .reads) ∙ by-run net (good .plan)
+
+    pub run-refused : (number place : ℕ) → ran ≡ Refused number place → refused number place ≡ mark n p
+    run-refused number place e = sym (marks-by ∙ ap (λ (a : Result Run). andThen a (thenTargets net (good .plan))) (go whole ran-as))
+      where
+        go : (a : Result Run) → RanAs (r .nodes) (r .tally) ran bits known first places a → a ≡ refused number place
+        go (ok run) f = absurd (let z : Done ≡ Refused number place = sym (f .0) ∙ e in let y : _≡_ {A = ℕ} 0 1 = cc in omega arith)
+        go (refused a b) f = let z : Refused a b ≡ Refused number place = sym f ∙ e in let x : a ≡ number = cc in let y : b ≡ place = cc in rw (x, y)
+
+    record Finished : Type 0 where
+      run : Run
+      is : whole ≡ ok run
+      last : configAt (r .nodes) (r .tally) bits known ≡ run .last
+      reached : Reached (r .tally) first places (run .paths)
+      sized : Sized bits known
+
+    finished : ran ≡ Done → Finished
+    finished e = go whole refl ran-as
+      where
+        go : (a : Result Run) → whole ≡ a → RanAs (r .nodes) (r .tally) ran bits known first places a → Finished
+        go (ok run) q f = record { run = run; is = q; last = f .1; reached = f .2; sized = f .3 }
+        go (refused a b) q f = absurd (let z : Done ≡ Refused a b = sym e ∙ f in let y : _≡_ {A = ℕ} 0 1 = cc in omega arith)
+
+    -- what the judgement asks
+    pub judgeable : ran ≡ Done → Judgeable (r .nodes) (r .tally) bits known
+    judgeable e = record {
+      tame = c .filled .tame;
+      sized = finished e .sized;
+      least = λ i lt. target-segment n r c i lt .least;
+      most = λ i lt. target-segment n r c i lt .most;
+      short = λ i lt. target-segment n r c i lt .short;
+    }
+
+    abbrev ending : List ScanPath → Config → ℕ → ℕ → Result Pass
+    ending ps x k m = andThen (targetsFrom 1 ps x (net .targets)) (λ gs. ok record { operations = k; clocks = m; gots = gs })
+
+    pub judged : (m : Mark) → ran ≡ Done → Judges (r .nodes) (r .tally) bits known first places lines (length p) m → markOf m ≡ mark n p
+    judged m e j =
+        let f = finished e in
+        let many : length p ≡ length (planClocks (good .plan)) = ap length (good .text) ∙ clocks-bytes (good .plan) in
+        j (f .run .paths) (f .reached)
+        ∙ ap (λ (k : ℕ). ending (f .run .paths) (configAt (r .nodes) (r .tally) bits known) k (length p)) (sym (good .count))
+        ∙ ap (λ (k : ℕ). ending (f .run .paths) (configAt (r .nodes) (r .tally) bits known) (length (good .plan)) k) many
+        ∙ ap (λ (x : Config). ending (f .run .paths) x (length (good .plan)) (length (planClocks (good .plan)))) (f .last)
+        ∙ sym (marks-by ∙ ap (λ (a : Result Run). andThen a (thenTargets net (good .plan))) (f .is))

@@ -1,0 +1,65 @@
+-- The targets after the operations.
+-- Assumes nothing.
+use mathlib.Core.Path.{_≡_}
+use mathlib.Core.Bool.{Bool}
+use mathlib.Core.Option.{Option, none, some}
+use mathlib.Core.List.{List, [], _∷_, _++_}
+use Prim.Native.Nat.{ℕ, zero, suc, _≤_, _<_}
+use lib.ListN.{getD}
+use Rattle.model.specs.Result.{ok, andThen}
+use Rattle.model.specs.Network.{lenOf, tabulate}
+use Rattle.model.specs.Path.{ScanPath}
+use Rattle.model.specs.Mark.{firstOn, holdsBits, targetsFrom}
+use Rattle.path.specs.Layout.{nodeAt, wordWidth, wordBit, tritsOf, configOf}
+use Rattle.path.specs.Answers.{Sized}
+use Rattle.network.specs.declared.draft.Tally.{Tally}
+use Rattle.network.specs.Draws.{Tame, targetsOf}
+use Rattle.marker.specs.declared.targets.Gots.{Gots}
+use Rattle.marker.specs.declared.targets.Mark.{Mark}
+use Rattle.marker.specs.Marks.{gotsOf, Blank, markOf}
+
+-- ---- first operations
+
+-- an operation and a place as they are stored: no operation is 0
+abbrev pub accessOf : ℕ → ℕ → Option (ℕ × ℕ)
+accessOf zero q = none
+accessOf (suc k) q = some (suc k, q)
+
+-- for each target the first operation on whose path it was, after operations with these paths, and its place
+abbrev pub Reached : Tally → List ℕ → List ℕ → List ScanPath → Type 0
+Reached t first places ps = (i : ℕ) → i < t .«target_count» → accessOf (getD first i 0) (getD places i 0) ≡ firstOn 1 ps (getD (t .«target_segment») i 0)
+
+-- ---- rows
+
+pub record Pushed (old : Gots) (target operation place : ℕ) (new : Gots) : Type 0 where
+  pub rows : gotsOf new ≡ gotsOf old ++ record { targetNumber = target; operation = operation; atPlace = place } ∷ []
+  pub counts : new .count ≡ suc (old .count)
+  pub blank : Blank new
+
+-- ---- the judgement
+
+-- the segment of target i
+abbrev pub segmentOf : Tally → ℕ → ℕ
+segmentOf t i = getD (t .«target_segment») i 0
+
+-- what it asks: targets are segments of the network, no longer than a word
+pub record Judgeable (ns : List ℕ) (t : Tally) (bits known : List ℕ) : Type 0 where
+  pub tame : Tame t
+  pub sized : Sized bits known
+  pub least : (i : ℕ) → i < t .«target_count» → 1 ≤ segmentOf t i
+  pub most : (i : ℕ) → i < t .«target_count» → segmentOf t i ≤ t .count
+  pub short : (i : ℕ) → i < t .«target_count» → lenOf (nodeAt ns (segmentOf t i)) ≤ wordWidth
+
+abbrev pub lenAt : List ℕ → Tally → ℕ → ℕ
+lenAt ns t i = lenOf (nodeAt ns (segmentOf t i))
+
+-- write target i holds its bits
+abbrev pub isHeld : List ℕ → Tally → List ℕ → List ℕ → ℕ → Bool
+isHeld ns t bits known i =
+    holdsBits (tritsOf (lenAt ns t i) (getD bits (segmentOf t i) 0) (getD known (segmentOf t i) 0)) (tabulate (wordBit (getD (t .«target_bits») i 0)) 0 (lenAt ns t i))
+
+-- what it answers: the verdict on the targets after operations with any paths that first and places tell of
+abbrev pub Judges : List ℕ → Tally → List ℕ → List ℕ → List ℕ → List ℕ → ℕ → ℕ → Mark → Type 0
+Judges ns t bits known first places lines clocks r =
+    (ps : List ScanPath) → Reached t first places ps
+    → markOf r ≡ andThen (targetsFrom 1 ps (configOf ns bits known (t .count)) (targetsOf ns t)) (λ gs. ok record { operations = lines; clocks = clocks; gots = gs })
