@@ -1,5 +1,4 @@
 -- Laws of the marker: the operations in turn, and the targets after them.
-pub mod Records
 pub mod Noting
 pub mod Running
 pub mod Rows

@@ -27,7 +27,7 @@ use Rattle.marker.specs.declared.targets.Mark.{Mark}
 use Rattle.marker.specs.Marks.{markOf, refusedMark, RowsFor}
 use Rattle.marker.specs.Targets.{Reached, Judgeable, Judges}
 use Rattle.marker.specs.Operations.{configAt, RanAs, Starts, Startable, fromStart, Runs}
-use Rattle.marker.proofs.Records.{Recorded, TargetSegment, target-segment}
+use Rattle.network.proofs.Records.{Recorded, TargetSegment, target-segment}
 
 -- ---- refusals of the texts
 

@@ -17,7 +17,7 @@ use Rattle.model.specs.Plan.{here}
 use Rattle.model.specs.Result.{ok}
 use Rattle.model.specs.Text.{Bytes, Trit}
 use Rattle.model.proofs.Lists.{eqb-is, true-false, and-parts, or-parts, none-some, some-same}
-use Rattle.model.proofs.Reading.{Placed, TargetsFit, HoldsFit, Stage, no-out, behind-out, Drafted, source}
+use Rattle.model.proofs.Reading.{Placed, TargetsFit, HoldsFit, Sound, Stage, no-out, behind-out, Drafted, source}
 use Rattle.model.proofs.Walking.{valid-by}
 use Rattle.model.proofs.WellFormed.{GoodNode, WellFormed, GoodTargets}
 
@@ -121,17 +121,24 @@ good-targets net f = record {
 
 -- ---- the network
 
+pub draft-formed : (d : Draft) (n k : ℕ) → Sound d n → d .feeds ≡ some k → WellFormed (networkOf d k)
+draft-formed d n k s q = go (s .stage)
+  where
+    go : Stage d n → WellFormed (networkOf d k)
+    go (no-out p m hs ts) = absurd (none-some k (sym p ∙ q))
+    go (behind-out j p l b hs ts) = record {
+      backwards = λ i m. good-node (d .nodes) (suc i) (getD (d .nodes) i noNode) (s .nodes-placed i m) (no-bad (d .nodes) (d .nodes) 1 b i m);
+      ends = let e : j ≡ k = some-same j k (sym p ∙ q) in omega arith;
+      starts = start-lengths (d .nodes) (d .holds) hs;
+    }
+
 of-draft : (d : Draft) (k : ℕ) → d .feeds ≡ some k → Drafted d → ValidConfig (networkOf d k) (networkOf d k .start) → Accepted (networkOf d k)
 of-draft d k q s v = go (s .sound .stage)
   where
     go : Stage d (s .lineNumber) → Accepted (networkOf d k)
     go (no-out p m hs ts) = absurd (none-some k (sym p ∙ q))
     go (behind-out j p l b hs ts) = record {
-      wf = record {
-        backwards = λ i m. good-node (d .nodes) (suc i) (getD (d .nodes) i noNode) (s .sound .nodes-placed i m) (no-bad (d .nodes) (d .nodes) 1 b i m);
-        ends = let e : j ≡ k = some-same j k (sym p ∙ q) in omega arith;
-        starts = start-lengths (d .nodes) (d .holds) hs;
-      };
+      wf = draft-formed d (s .lineNumber) k (s .sound) q;
       good = good-targets (networkOf d k) ts;
       targets-fit = ts;
       few-nodes = s .sound .few-nodes;

@@ -1,4 +1,4 @@
--- A valid plan stays valid when each operation is filled as the planFor fills it. So the fewest operations of any valid plan
+-- A valid plan stays valid when each operation is filled as the planner fills it. So the fewest operations of any valid plan
 -- are the fewest of a filled one.
 -- Assumes nothing.
 use mathlib.Core.Path.{_≡_, refl, sym, ap, _∙_, subst}
@@ -13,7 +13,7 @@ use lib.ListN.{length, getD, take, drop, length-drop, length-take, length-append
 use lib.Seq.{take-at, drop-at, length-take-le}
 use lib.Dec.{eqb, leb, eqb→eq, T}
 use Rattle.model.specs.Network.{segment, Node, multiplexer, Target, read, write, Config, Network, at, noNode, lenOf, mapFrom, tabulate, steersAt, steers}
-use Rattle.model.specs.Path.{PathSegment, ScanPath, path, bitOf, valueOf, walk, pathOf, pathIn, ValidConfig, pathLength, on, share, loads, csu}
+use Rattle.model.specs.Path.{PathSegment, ScanPath, path, bitOf, valueOf, address, walk, pathOf, pathIn, ValidConfig, pathLength, on, share, loads, csu}
 use Rattle.model.specs.Plan.{Plan, configAfter, pathsFrom, ValidFrom, OnSome, Done, ValidPlan, wanted, fillSeg, fillOp, fillPlan}
 use Rattle.model.specs.Text.{Trit}
 use Rattle.model.proofs.Lists.{eqb-same, eqb-is, or-left, or-right, and-both, take-map, drop-map, length-mapFrom, at-mapFrom}
@@ -129,33 +129,36 @@ same-csu r p bs e = same-op r p bs e
 
 -- ---- they have the same path
 
-steers-in : (ns : List Node) (n s b : ℕ) → n < length ns → steersAt (getD ns n noNode) s b ≡ true → steers ns s b ≡ true
+pub steers-in : (ns : List Node) (n s b : ℕ) → n < length ns → steersAt (getD ns n noNode) s b ≡ true → steers ns s b ≡ true
 unfolding steers
 steers-in [] n s b l e = absurd (not-suc-le-zero l)
 steers-in (x ∷ ns) zero s b l e = or-left (steersAt x s b) (steers ns s b) e
 steers-in (x ∷ ns) (suc n) s b l e = or-right (steersAt x s b) (steers ns s b) (steers-in ns n s b (le-of-suc-le-suc l) e)
 
-node-same : (look look′ : ℕ → ℕ → Trit) (nd : Node) → ((s b : ℕ) → steersAt nd s b ≡ true → look s b ≡ look′ s b) → NodeGrows look look′ nd
-node-same look look′ (segment from len sh) f = tt
-node-same look look′ (multiplexer s b ins) f =
-    λ v e. sym (go (leb (length ins) 2) refl) ∙ e
+-- an address depends on its own bits alone
+pub address-same : (look look′ : ℕ → ℕ → Trit) (s b : ℕ) (ins : List ℕ) → ((i : ℕ) → steersAt (multiplexer s b ins) s i ≡ true → look s i ≡ look′ s i) → address look s b ins ≡ address look′ s b ins
+address-same look look′ s b ins f = go (leb (length ins) 2) refl
   where
     first : look s b ≡ look′ s b
-    first = f s b (and-both (eqb s s) _ (eqb-same s) (or-left (eqb b b) _ (eqb-same b)))
+    first = f b (and-both (eqb s s) _ (eqb-same s) (or-left (eqb b b) _ (eqb-same b)))
 
     go : (t : Bool) → leb (length ins) 2 ≡ t
         → cond t (valueOf (look s b) (some false)) (valueOf (look s b) (look s (suc b))) ≡ cond t (valueOf (look′ s b) (some false)) (valueOf (look′ s b) (look′ s (suc b)))
     go true q = rw first
     go false q =
         let second : look s (suc b) ≡ look′ s (suc b) =
-        f s (suc b) (and-both (eqb s s) _ (eqb-same s) (or-right (eqb b (suc b)) _ (and-both (not (leb (length ins) 2)) _ (ap not q) (eqb-same (suc b))))) in
+        f (suc b) (and-both (eqb s s) _ (eqb-same s) (or-right (eqb b (suc b)) _ (and-both (not (leb (length ins) 2)) _ (ap not q) (eqb-same (suc b))))) in
         rw (first, second)
+
+node-same : (look look′ : ℕ → ℕ → Trit) (nd : Node) → ((s b : ℕ) → steersAt nd s b ≡ true → look s b ≡ look′ s b) → NodeGrows look look′ nd
+node-same look look′ (segment from len sh) f = tt
+node-same look look′ (multiplexer s b ins) f = λ v e. sym (address-same look look′ s b ins (f s)) ∙ e
 
 pub same-path : (net : Network) → WellFormed net → {c c′ : Config} → Same net 1 c c′ → (p : ScanPath) → walk net c ≡ path p → walk net c′ ≡ path p
 same-path net wf {c} {c′} r p e =
     path-found net wf c c′ p e (λ n l. node-same (bitOf c) (bitOf c′) (getD (net .nodes) n noNode) (λ s b y. same-bit r s b (steers-in (net .nodes) n s b l y)))
 
--- ---- a write targetNumber on the path gets its bits
+-- ---- a write target on the path gets its bits
 
 on-range : (ns : List Node) (m : ℕ) (p : ScanPath) (s : ℕ) → Falls ns m p → on p s ≡ true → (1 ≤ s) × (s < m)
 on-range ns m [] s f e = let z : _≡_ {A = ℕ} 0 1 = cc in absurd (omega arith)

@@ -74,7 +74,7 @@ bits-free [] = tt
 bits-free (true ∷ bs) = (refl, bits-free bs)
 bits-free (false ∷ bs) = (refl, bits-free bs)
 
-csu-free : (bs : List Bool) → Free lineEnd (csuBytes bs)
+pub csu-free : (bs : List Bool) → Free lineEnd (csuBytes bs)
 csu-free bs = (refl, (refl, (refl, (refl, bits-free bs))))
 
 scan-written : (bs : List Bool) → scanBits (map bitByte bs) ≡ some bs
@@ -83,7 +83,7 @@ scan-written [] = refl
 scan-written (true ∷ bs) = rw (scan-written bs)
 scan-written (false ∷ bs) = rw (scan-written bs)
 
-csu-written : (bs : List Bool) → csuLine (csuBytes bs) ≡ some bs
+pub csu-written : (bs : List Bool) → csuLine (csuBytes bs) ≡ some bs
 unfolding csuLine same
 csu-written bs = scan-written bs
 
@@ -105,7 +105,7 @@ scan-bytes (b ∷ l) bs e =
     ∙ ap (λ (x : ℕ). x ∷ map bitByte (r .value)) (bit-byte b (v .value) (v .given))
     ∙ ap (λ (x : Bytes). b ∷ x) (scan-bytes l (r .value) (r .given))
 
-same-is : (a b : Bytes) → same a b ≡ true → a ≡ b
+pub same-is : (a b : Bytes) → same a b ≡ true → a ≡ b
 unfolding same
 same-is [] [] e = refl
 same-is [] (y ∷ b) e = absurd (true-false (sym e))

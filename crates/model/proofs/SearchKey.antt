@@ -1,4 +1,4 @@
--- What the planFor's search depends on: the steering bits of the configuration and which targets have been on a path.
+-- What the planner's search depends on: the steering bits of the configuration and which targets have been on a path.
 -- Those are the 3 ^ 6 * 2 ^ 4 = 11,664 entries of the search space.
 -- Assumes nothing.
 use mathlib.Core.Path.{_≡_, refl, sym, ap, _∙_, subst}
@@ -32,11 +32,11 @@ abbrev pub segOf : Target → ℕ
 segOf (read s) = s
 segOf (write s bs) = s
 
--- a write targetNumber that has been on a path holdsBits its bits: so it is after filled operations
+-- a write target that has been on a path holds its bits: so it is after filled operations
 abbrev pub Kept : Network → List ScanPath → Config → Type 0
 Kept net ps c = (s : ℕ) (w : List Bool) → List·Memᴰ (write s w) (net .targets) → OnSome ps s → at c s [] ≡ map some w
 
--- every targetNumber that has been on one list's paths has been on the other's
+-- every target that has been on one list's paths has been on the other's
 abbrev pub Reaches : Network → List ScanPath → List ScanPath → Type 0
 Reaches net ps ps′ = (t : Target) → List·Memᴰ t (net .targets) → OnSome ps (segOf t) → OnSome ps′ (segOf t)
 
@@ -70,7 +70,7 @@ reaches-op net ps ps′ p r t m x = go (side ps p (segOf t) x)
     go (inr y) = (y .0, Memᴰ·append-right ps′ (y .1), y .2)
 
 module _ (net : Network) (wf : WellFormed net) (good : GoodTargets net) where
-  kept-op : (ps : List ScanPath) (c : Config) (p : ScanPath) (bs : List Bool) → walk net c ≡ path p → length c ≡ length (net .nodes) → length bs ≡ pathLength p → fillOp net p bs ≡ bs
+  pub kept-op : (ps : List ScanPath) (c : Config) (p : ScanPath) (bs : List Bool) → walk net c ≡ path p → length c ≡ length (net .nodes) → length bs ≡ pathLength p → fillOp net p bs ≡ bs
       → Kept net ps c → Kept net (ps ++ p ∷ []) (csu p bs c)
   kept-op ps c p bs e l n f k s w m x = go (owed-op net wf good s w m p bs [] c falls n l (by-side (side ps p s x)))
     where

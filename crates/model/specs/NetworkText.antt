@@ -169,15 +169,20 @@ isTarget (u ∷ us) t = sameTarget u t || isTarget us t
 abbrev pub withTarget : Draft → Target → Draft
 withTarget d t = record { nodes = d .nodes; feeds = d .feeds; holds = d .holds; targets = d .targets ++ t ∷ [] }
 
+-- a target that fits its segment: 6 for a repeat, 7, 8
+abbrev pub addFitting : Draft → ℕ → Target → Result Draft
+addFitting d n t =
+    refuseIf (isTarget (d .targets) t) 6 n
+    (refuseIf (isSteering (d .nodes) (targetSegment t)) 7 n
+    (refuseIf (leb 4 (length (d .targets))) 8 n
+    (ok (withTarget d t))))
+
 -- a `write` or `read` line: 4, 6, 7, 8
 unfoldable pub addTarget : Draft → ℕ → Target → Result Draft
 addTarget d n t =
     refuseIf (not (hasOut d)) 4 n
     (refuseIf (not (fitsTarget (d .nodes) t)) 6 n
-    (refuseIf (isTarget (d .targets) t) 6 n
-    (refuseIf (isSteering (d .nodes) (targetSegment t)) 7 n
-    (refuseIf (leb 4 (length (d .targets))) 8 n
-    (ok (withTarget d t))))))
+    (addFitting d n t))
 
 -- ---- "line by line 1, 4, 2, 3, 6, 7, 8; 5 follows 2 on the `out` line; a missing `out` at the end; then 9"
 

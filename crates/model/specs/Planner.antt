@@ -31,9 +31,9 @@ abbrev pub orNext : {A : Type 0} → Option A → Option A → Option A
 orNext none later = later
 orNext (some a) later = some a
 
-abbrev pub startingWith : List Bool → Option Plan → Option Plan
-startingWith bs none = none
-startingWith bs (some plan) = some (bs ∷ plan)
+abbrev pub startingWith : {A : Type 0} → A → Option (List A) → Option (List A)
+startingWith a none = none
+startingWith a (some rest) = some (a ∷ rest)
 
 -- the first of the fillings from which the rest can be done
 abbrev pub firstOf : List (List Bool) → (List Bool → Option Plan) → Option Plan

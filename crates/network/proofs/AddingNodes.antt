@@ -22,7 +22,7 @@ use Rattle.network.specs.declared.draft.Tally.{Tally}
 use Rattle.network.specs.declared.line.NodeData.{NodeData}
 use Rattle.network.specs.declared.line.NodeData.the-variants.{Segment, Multiplexer}
 use Rattle.network.specs.Line.{nodeFor, SmallNode}
-use Rattle.network.specs.Store.{Row, Stored, Marked}
+use Rattle.network.specs.Store.{Row, RowStored, Marked}
 use Rattle.network.specs.Draws.{Tame, Sized, Draws, targetAt, targetsOf, feedsOf}
 use Rattle.network.proofs.Nodes.{by-count, node-by-fields}
 use Rattle.network.proofs.Drawing.{tabulate-snoc, steers-more, drawn-out, drawn-count, drawn-targets, kept-node}
@@ -75,7 +75,7 @@ bare d n s e = go (s .stage)
 -- ---- the longer draft
 
 module _ (ns bits known steering held : List ℕ) (t : Tally) (d : Draft) (n : ℕ) (w : Draws ns bits known steering held t d n) (x : Node) (form : GoodForm x)
-    (row ns′ steering′ : List ℕ) (is-row : Row x row) (stored : Stored ns (t .count + 1) row ns′) (marked : Marked steering x steering′)
+    (row ns′ steering′ : List ℕ) (is-row : Row x row) (stored : RowStored ns (t .count + 1) row ns′) (marked : Marked steering x steering′)
     (no : hasOut d ≡ false) (inside : outside n x ≡ false) (few : t .count < 128) (short : totalBits (d .nodes) + lenOf x ≤ 4000) where
   abbrev t′ : Tally
   t′ = record {

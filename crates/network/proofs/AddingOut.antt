@@ -14,7 +14,7 @@ use Rattle.model.specs.NetworkText.{Draft, hasOut, firstBad, addOut, withOut, o
 use Rattle.model.proofs.Reading.{sound-out}
 use Rattle.path.specs.Layout.{nodesOf}
 use Rattle.network.specs.declared.draft.Tally.{Tally}
-use Rattle.network.specs.Draws.{Draws, firstOf}
+use Rattle.network.specs.Draws.{Draws, ifNonzero}
 
 module _ (d : Draft) (n k : ℕ) where
   pub out-4 : hasOut d ≡ true → addOut d n k ≡ refused 4 n
@@ -30,16 +30,16 @@ module _ (d : Draft) (n k : ℕ) where
     unfolding addOut
     by-first h o f = rw (e, le-ltb (length (d .nodes)) k h, f)
 
-    module _ (h : k ≤ length (d .nodes)) (m : ℕ) (f : firstOf m ≡ firstBad (d .nodes) 1 (d .nodes)) where
+    module _ (h : k ≤ length (d .nodes)) (m : ℕ) (f : ifNonzero m ≡ firstBad (d .nodes) 1 (d .nodes)) where
       pub out-5 : (m ≡ 0 → ⊥) → addOut d n k ≡ refused 5 m
-      out-5 ne = go m refl (by-first h (firstOf m) (sym f))
+      out-5 ne = go m refl (by-first h (ifNonzero m) (sym f))
         where
-          go : (j : ℕ) → j ≡ m → addOut d n k ≡ outIf d k (firstOf m) → addOut d n k ≡ refused 5 m
+          go : (j : ℕ) → j ≡ m → addOut d n k ≡ outIf d k (ifNonzero m) → addOut d n k ≡ refused 5 m
           go zero z q = absurd (ne (sym z))
-          go (suc j) z q = q ∙ ap (λ (x : ℕ). outIf d k (firstOf x)) (sym z) ∙ ap (refused 5) z
+          go (suc j) z q = q ∙ ap (λ (x : ℕ). outIf d k (ifNonzero x)) (sym z) ∙ ap (refused 5) z
 
       pub out-added : m ≡ 0 → addOut d n k ≡ ok (withOut d k)
-      out-added z = by-first h (firstOf m) (sym f) ∙ ap (λ (x : ℕ). outIf d k (firstOf x)) z
+      out-added z = by-first h (ifNonzero m) (sym f) ∙ ap (λ (x : ℕ). outIf d k (ifNonzero x)) z
 
 module _ (ns bits known steering held : List ℕ) (t : Tally) (d : Draft) (n k : ℕ) (w : Draws ns bits known steering held t d n) (is : addOut d n k ≡ ok (withOut d k)) where
   pub fed : Draws ns bits known steering held record {

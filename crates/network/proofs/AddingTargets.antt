@@ -16,15 +16,15 @@ use lib.Dec.{eqb, leb, ltb}
 use borrow.Author.Tests.{eq-eqb, ne-eqb, eqb-true, eqb-false, le-leb, lt-leb, leb-true, not-false, ltb-false}
 use Rattle.model.specs.Result.{Result, ok, refused, refuseIf}
 use Rattle.model.specs.Network.{Node, segment, multiplexer, Target, read, write, at, noNode, hasShadow, lenOf, addressBits, tabulate, steers, steersAt, addressIn, isSteering}
-use Rattle.model.specs.NetworkText.{Draft, hasOut, isSome, outside, badAddress, fitsTarget, fitsBits, sameTarget, isTarget, targetSegment, addTarget, withTarget}
+use Rattle.model.specs.NetworkText.{Draft, hasOut, isSome, outside, badAddress, fitsTarget, fitsBits, sameTarget, isTarget, targetSegment, addFitting, addTarget, withTarget}
 use Rattle.model.proofs.Lists.{true-false, and-parts, or-parts, or-left, or-right, eqb-same, tabulate-cong}
 use Rattle.model.proofs.Reading.{Sound, Stage, no-out, behind-out, sound-target}
 use Rattle.model.proofs.Accepted.{no-bad, unsteered-bits}
-use Rattle.path.specs.Layout.{nodeAt, nodesOf, wordBit}
+use Rattle.path.specs.Layout.{nodeAt, nodesOf, wordWidth, wordBit}
 use Rattle.network.specs.declared.draft.Tally.{Tally}
 use Rattle.network.specs.declared.add.Refusal.{Refusal}
-use Rattle.network.specs.Draws.{Draws, targetAt, targetsOf, targetFor, sameWord, Follows}
-use Rattle.network.specs.Added.{targetRest, IsWord}
+use Rattle.network.specs.Draws.{Draws, targetAt, targetsOf, targetFor, sameWord, Agrees}
+use Rattle.network.specs.Added.{IsWord}
 use Rattle.network.proofs.Drawing.{tabulate-snoc, drawn-targets, drawn-short}
 
 -- ---- a repeat
@@ -119,10 +119,10 @@ there x ns s b e = or-right (steersAt x s b) (steers ns s b) e
 record SteeringBit (ns : List Node) (s : ℕ) : Type 0 where
   b : ℕ
   is : steers ns s b ≡ true
-  small : b < 32
+  small : b < wordWidth
 
-module _ (all : List Node) (short : (s : ℕ) → lenOf (at all s noNode) ≤ 32) where
-  node-bit : (x : Node) (s : ℕ) → badAddress all x ≡ false → addressIn s x ≡ true → (b : ℕ) × (steersAt x s b ≡ true) × (b < 32)
+module _ (all : List Node) (short : (s : ℕ) → lenOf (at all s noNode) ≤ wordWidth) where
+  node-bit : (x : Node) (s : ℕ) → badAddress all x ≡ false → addressIn s x ≡ true → (b : ℕ) × (steersAt x s b ≡ true) × (b < wordWidth)
   node-bit (segment from len sh) s e f = absurd (true-false (sym f))
   node-bit (multiplexer q b ins) s e f =
       let g = and-parts (hasShadow (at all q noNode)) (leb (b + addressBits ins) (lenOf (at all q noNode))) (not-false _ e) in
@@ -165,7 +165,7 @@ module _ (ns bits known steering held : List ℕ) (t : Tally) (d : Draft) (n : �
     where
       go : (b : Bool) → isSteering (d .nodes) s ≡ b → isSteering (d .nodes) s ≡ true
       go true q = q
-      go false q = absurd (ne (word-zero 32 (getD steering s 0) (w .steering-small s) (λ b m. w .steering-is s b l m ∙ unsteered-bits (d .nodes) s b q)))
+      go false q = absurd (ne (word-zero wordWidth (getD steering s 0) (w .steering-small s) (λ b m. w .steering-is s b l m ∙ unsteered-bits (d .nodes) s b q)))
 
 -- ---- the refusals
 
@@ -178,26 +178,22 @@ module _ (d : Draft) (n : ℕ) (x : Target) where
   unfolding addTarget
   target-6 e f = rw (e, f)
 
-  pub target-rest : hasOut d ≡ true → fitsTarget (d .nodes) x ≡ true → addTarget d n x ≡ targetRest d n x
-  unfolding addTarget targetRest
+  pub target-rest : hasOut d ≡ true → fitsTarget (d .nodes) x ≡ true → addTarget d n x ≡ addFitting d n x
+  unfolding addTarget
   target-rest e f = rw (e, f)
 
-  pub again-6 : isTarget (d .targets) x ≡ true → targetRest d n x ≡ refused 6 n
-  unfolding targetRest
+  pub again-6 : isTarget (d .targets) x ≡ true → addFitting d n x ≡ refused 6 n
   again-6 e = rw e
 
   module _ (e : isTarget (d .targets) x ≡ false) where
-    pub target-7 : isSteering (d .nodes) (targetSegment x) ≡ true → targetRest d n x ≡ refused 7 n
-    unfolding targetRest
+    pub target-7 : isSteering (d .nodes) (targetSegment x) ≡ true → addFitting d n x ≡ refused 7 n
     target-7 f = rw (e, f)
 
     module _ (f : isSteering (d .nodes) (targetSegment x) ≡ false) where
-      pub target-8 : 4 ≤ length (d .targets) → targetRest d n x ≡ refused 8 n
-      unfolding targetRest
+      pub target-8 : 4 ≤ length (d .targets) → addFitting d n x ≡ refused 8 n
       target-8 g = rw (e, f, le-leb 4 (length (d .targets)) g)
 
-      pub target-added : length (d .targets) < 4 → targetRest d n x ≡ ok (withTarget d x)
-      unfolding targetRest
+      pub target-added : length (d .targets) < 4 → addFitting d n x ≡ ok (withTarget d x)
       target-added g = rw (e, f, lt-leb 4 (length (d .targets)) g)
 
 pub segment-of : (w : Bool) (s : ℕ) (bs : List Bool) → targetSegment (targetFor w s bs) ≡ s
@@ -271,6 +267,6 @@ module _ (ns bits known steering held : List ℕ) (t : Tally) (d : Draft) (n : �
     sound = sound-target d (withTarget d (targetFor k s bs)) n (targetFor k s bs) (w .sound) is;
   }
 
--- an answer that follows the checks behind 4 and 6 follows the whole
-pub follows-rest : (D : Draft → Type 0) (a b : Result Draft) (r : Refusal) → a ≡ b → Follows D b r → Follows D a r
-follows-rest D a b r e f = subst (λ (x : Result Draft). Follows D x r) (sym e) f
+-- what agrees with one of two equal results agrees with the other
+pub agrees-same : (D : Draft → Type 0) (a b : Result Draft) (r : Refusal) → a ≡ b → Agrees D b r → Agrees D a r
+agrees-same D a b r e f = subst (λ (x : Result Draft). Agrees D x r) (sym e) f

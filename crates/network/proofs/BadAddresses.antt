@@ -16,7 +16,7 @@ use Rattle.model.specs.NetworkText.{badAddress, firstBad}
 use Rattle.model.proofs.Lists.{length-tabulate, getD-tabulate}
 use Rattle.path.specs.Layout.{fieldAt, inputsAt, nodeAt, nodesOf}
 use Rattle.path.proofs.NodeLaws.{segment-at, mux-at}
-use Rattle.network.specs.Draws.{firstOf}
+use Rattle.network.specs.Draws.{ifNonzero}
 
 -- ---- a node by its number
 
@@ -114,11 +114,11 @@ module _ (ns : List ℕ) (count k : ℕ) where
   unfolding badFrom
   bad-start e = let f : count + 1 - 1 ≡ count = omega arith in rw (e, f)
 
-  pub bad-hit : 1 ≤ k → k ≤ count → badAddress (nodesOf ns count) (nodeAt ns k) ≡ true → firstOf k ≡ badFrom ns count k
+  pub bad-hit : 1 ≤ k → k ≤ count → badAddress (nodesOf ns count) (nodeAt ns k) ≡ true → ifNonzero k ≡ badFrom ns count k
   unfolding badFrom firstBad
   bad-hit lo h e = positive k lo ∙ sym (ap (firstBad (nodesOf ns count) k) (split h) ∙ rw e)
     where
-      positive : (j : ℕ) → 1 ≤ j → firstOf j ≡ some j
+      positive : (j : ℕ) → 1 ≤ j → ifNonzero j ≡ some j
       positive zero l = absurd (omega arith)
       positive (suc j) l = refl
 

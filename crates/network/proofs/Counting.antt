@@ -8,7 +8,7 @@ use native.Mathlib.Omega.{arith}
 use lib.ListN.{length, getD, length-append}
 use Rattle.model.specs.Network.{Node, lenOf, tabulate, steers, steeringIn, steeringFrom, steeringBits}
 use Rattle.model.specs.Path.{bitValue}
-use Rattle.path.specs.Layout.{nodeAt, nodesOf, wordBit}
+use Rattle.path.specs.Layout.{nodeAt, nodesOf, wordWidth, wordBit}
 use Rattle.network.specs.Draws.{Short}
 use Rattle.network.specs.Counts.{countIn, countFrom}
 
@@ -41,8 +41,8 @@ pub sum-end : (ns steering : List ℕ) (s count : ℕ) → count < s → countFr
 unfolding countFrom
 sum-end ns steering s count l = let e : count + 1 - s ≡ 0 = omega arith in rw e refl
 
-module _ (all : List Node) (w s : ℕ) (same : (b : ℕ) → b < 32 → wordBit w b ≡ steers all s b) where
-  counts-in : (n b : ℕ) → b + n ≤ 32 → countIn w b n ≡ length (steeringIn all s b n)
+module _ (all : List Node) (w s : ℕ) (same : (b : ℕ) → b < wordWidth → wordBit w b ≡ steers all s b) where
+  counts-in : (n b : ℕ) → b + n ≤ wordWidth → countIn w b n ≡ length (steeringIn all s b n)
   unfolding countIn steeringIn
   counts-in zero b l = refl
   counts-in (suc n) b l = ap (λ (t : Bool). bitValue t + countIn w (suc b) n) (same b (omega arith)) ∙ go (steers all s b) (counts-in n (suc b) (omega arith))
@@ -53,7 +53,7 @@ module _ (all : List Node) (w s : ℕ) (same : (b : ℕ) → b < 32 → wordBit 
       go false e = omega (arith, e)
 
 module _ (ns steering : List ℕ) (count : ℕ) (most : count ≤ 128) (short : Short ns count)
-    (same : (s b : ℕ) → s ≤ 128 → b < 32 → wordBit (getD steering s 0) b ≡ steers (nodesOf ns count) s b) where
+    (same : (s b : ℕ) → s ≤ 128 → b < wordWidth → wordBit (getD steering s 0) b ≡ steers (nodesOf ns count) s b) where
   counts-from : (n s : ℕ) → 1 ≤ s → s + n ≤ count + 1 → countFrom ns steering s n ≡ length (steeringFrom (nodesOf ns count) s (tabulate (nodeAt ns) s n))
   unfolding countFrom steeringFrom
   counts-from zero s a l = refl

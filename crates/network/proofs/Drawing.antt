@@ -18,21 +18,21 @@ use Rattle.model.specs.NetworkText.{Draft, hasOut, isSome, outside}
 use Rattle.model.proofs.Lists.{or-parts, length-tabulate, getD-tabulate}
 use Rattle.model.proofs.LineForms.{GoodForm}
 use Rattle.model.proofs.Reading.{Sound, Placed}
-use Rattle.path.specs.Layout.{fieldAt, nodeAt, nodesOf}
+use Rattle.path.specs.Layout.{fieldAt, nodeAt, nodesOf, wordWidth}
 use Rattle.network.specs.declared.draft.Tally.{Tally}
 use Rattle.network.specs.declared.add.Refusal.{Refusal}
 use Rattle.network.specs.declared.add.Refusal.the-variants.{Nothing, Refused}
-use Rattle.network.specs.Store.{Stored}
-use Rattle.network.specs.Draws.{feedsOf, targetsOf, Formed, Short, Draws, Follows}
+use Rattle.network.specs.Store.{RowStored}
+use Rattle.network.specs.Draws.{feedsOf, targetsOf, Formed, Short, Draws, Agrees}
 use Rattle.network.proofs.Nodes.{node-by-fields}
 
 -- ---- answers
 
-pub follows-refused : (D : Draft → Type 0) (a : Result Draft) (r : Refusal) (number place : ℕ) → a ≡ refused number place → r ≡ Refused number place → Follows D a r
-follows-refused D a r number place e f = subst (λ (x : Result Draft). Follows D x r) (sym e) f
+pub agrees-refused : (D : Draft → Type 0) (a : Result Draft) (r : Refusal) (number place : ℕ) → a ≡ refused number place → r ≡ Refused number place → Agrees D a r
+agrees-refused D a r number place e f = subst (λ (x : Result Draft). Agrees D x r) (sym e) f
 
-pub follows-ok : (D : Draft → Type 0) (a : Result Draft) (r : Refusal) (d : Draft) → a ≡ ok d → r ≡ Nothing → D d → Follows D a r
-follows-ok D a r d e f x = subst (λ (y : Result Draft). Follows D y r) (sym e) (f, x)
+pub agrees-ok : (D : Draft → Type 0) (a : Result Draft) (r : Refusal) (d : Draft) → a ≡ ok d → r ≡ Nothing → D d → Agrees D a r
+agrees-ok D a r d e f x = subst (λ (y : Result Draft). Agrees D y r) (sym e) (f, x)
 
 -- ---- lists by number
 
@@ -94,7 +94,7 @@ module _ (ns bits known steering held : List ℕ) (t : Tally) (d : Draft) (n : �
       kind-small ns (suc k) (subst GoodForm (drawn-node (suc k) lo hi) (w .sound .nodes-placed k (omega (arith, drawn-count)) .form))
 
   -- the nodes before one that is stored stay
-  pub kept-node : (row ns′ : List ℕ) (j : ℕ) → Stored ns j row ns′ → t .count < j → (k : ℕ) → 1 ≤ k → k ≤ t .count → nodeAt ns′ k ≡ nodeAt ns k
+  pub kept-node : (row ns′ : List ℕ) (j : ℕ) → RowStored ns j row ns′ → t .count < j → (k : ℕ) → 1 ≤ k → k ≤ t .count → nodeAt ns′ k ≡ nodeAt ns k
   kept-node row ns′ j s l k lo hi = node-by-fields ns′ ns k k (λ i h. s .others k i (λ z. omega arith) h) (drawn-kind k lo hi)
 
   -- a LEN that was looked up
@@ -102,15 +102,15 @@ module _ (ns bits known steering held : List ℕ) (t : Tally) (d : Draft) (n : �
   drawn-len r s e = ap (λ (l : List Node). lenOf (at l s noNode)) (sym (w .nodes-are)) ∙ sym e
 
   -- no segment is longer than a word
-  len-small : (k : ℕ) (x : Node) → outside k x ≡ false → lenOf x ≤ 32
-  len-small k (segment from len sh) e = ltb-false 32 len (or-parts (leb k from || ltb len 1) (ltb 32 len) e .1)
+  len-small : (k : ℕ) (x : Node) → outside k x ≡ false → lenOf x ≤ wordWidth
+  len-small k (segment from len sh) e = let l = ltb-false 32 len (or-parts (leb k from || ltb len 1) (ltb 32 len) e .1) in omega arith
   len-small k (multiplexer s b ins) e = omega arith
 
-  pub drawn-short : (s : ℕ) → lenOf (at (d .nodes) s noNode) ≤ 32
+  pub drawn-short : (s : ℕ) → lenOf (at (d .nodes) s noNode) ≤ wordWidth
   drawn-short zero = omega arith
   drawn-short (suc k) = go (decLt k (length (d .nodes)))
     where
-      go : Dec (k < length (d .nodes)) → lenOf (getD (d .nodes) k noNode) ≤ 32
+      go : Dec (k < length (d .nodes)) → lenOf (getD (d .nodes) k noNode) ≤ wordWidth
       go (yes l) = len-small (suc k) (getD (d .nodes) k noNode) (w .sound .nodes-placed k l .within)
       go (no l) = let e = ap lenOf (List·getD-eq-default (d .nodes) noNode {n = k} (omega arith)) in omega arith
 

@@ -11,3 +11,4 @@ pub mod Starting
 pub mod Counting
 pub mod ReadingLines
 pub mod ReadingNetwork
+pub mod Records

@@ -13,14 +13,14 @@ use lib.Seq.{getD-set-same, getD-set-other}
 use lib.Dec.{eqb, leb, ltb}
 use lib.Bits.{bitOr, or-shr, or-step, or-lt}
 use lib.Pow.{pow-lt, pow-add, pow-pos}
-use native.Mathlib.Nat.{pow-suc, div-eq-of-lt, div-self, mul-div-cancel, mod-eq-of-lt}
+use native.Mathlib.Nat.{pow-suc, div-eq-of-lt, div-self, mul-div-cancel}
 use borrow.Author.Tests.{le-leb, lt-leb, lt-ltb, le-ltb, eq-eqb, ne-eqb, eqb-true, eqb-false}
 use Rattle.model.specs.Network.{Node, segment, multiplexer, tabulate, steersAt}
 use Rattle.model.specs.NetworkText.{anyFrom, outside}
 use Rattle.model.proofs.Lists.{tabulate-cong}
-use Rattle.path.specs.Layout.{fieldAt, nodeAt, wordBit}
+use Rattle.path.specs.Layout.{fieldAt, nodeAt, wordWidth, wordBit}
 use Rattle.network.specs.Line.{inputsOf}
-use Rattle.network.specs.Store.{Row, Stored, Small, BitMarked, Marked}
+use Rattle.network.specs.Store.{Row, RowStored, Small, BitMarked, Marked}
 
 -- ---- bounds
 
@@ -128,7 +128,7 @@ storing-more ns k row i ns′ long hk hi p = record {
         let e : x ≡ i = omega arith in
         rw e (getD-set-same ns′ (k * 8 + i) (getD row i 0) 0 (omega (arith, p .size)))
 
-pub storing-all : (ns : List ℕ) (k : ℕ) (row : List ℕ) (i : ℕ) (ns′ : List ℕ) → 8 ≤ i → i ≤ 8 → Storing ns k row i ns′ → Stored ns k row ns′
+pub storing-all : (ns : List ℕ) (k : ℕ) (row : List ℕ) (i : ℕ) (ns′ : List ℕ) → 8 ≤ i → i ≤ 8 → Storing ns k row i ns′ → RowStored ns k row ns′
 storing-all ns k row i ns′ lo hi p = record {
   size = p .size;
   here = λ x l. p .here x (omega arith);
@@ -184,16 +184,19 @@ and-no false b e = refl
 pub no-segment : (old : List ℕ) (s b : ℕ) → 128 < s → BitMarked old s b old
 no-segment old s b h = record { size = refl; marks = λ r c l m. rw (ne-eqb s r (λ z. omega arith)) (or-false (wordBit (getD old r 0) c)); small = λ f. f }
 
-pub no-bit : (old : List ℕ) (s b : ℕ) → 31 < b → BitMarked old s b old
+pub no-bit : (old : List ℕ) (s b : ℕ) → wordWidth ≤ b → BitMarked old s b old
 no-bit old s b h = record {
   size = refl;
   marks = λ r c l m. rw (and-no (eqb s r) (eqb b c) (ne-eqb b c (λ z. omega arith))) (or-false (wordBit (getD old r 0) c));
   small = λ f. f;
 }
 
-pub bit-marked : (old : List ℕ) (s b v : ℕ) → length old ≡ 129 → s ≤ 128 → b ≤ 31 → v ≡ bitOr (getD old s 0) (2 ^ b) → BitMarked old s b (set old s v)
-bit-marked old s b v size hs hb e = record { size = length-set old s v; marks = λ r c l m. marks r c (eqb s r) refl; small = small }
+pub bit-marked : (old : List ℕ) (s b o : ℕ) → length old ≡ 129 → s ≤ 128 → b < wordWidth → o ≡ 2 ^ b → BitMarked old s b (set old s (bitOr (getD old s 0) o))
+bit-marked old s b o size hs hb e = record { size = length-set old s v; marks = λ r c l m. marks r c (eqb s r) refl; small = small }
   where
+    v : ℕ
+    v = bitOr (getD old s 0) o
+
     marks : (r c : ℕ) (t : Bool) → eqb s r ≡ t → wordBit (getD (set old s v) r 0) c ≡ (wordBit (getD old r 0) c || (t && eqb b c))
     marks r c true f =
         rw (← (eqb-true s r f), getD-set-same old s v 0 (omega arith), e)
@@ -203,8 +206,8 @@ bit-marked old s b v size hs hb e = record { size = length-set old s v; marks = 
     small : Small old → Small (set old s v)
     small f r = go (eqb s r) refl
       where
-        go : (t : Bool) → eqb s r ≡ t → getD (set old s v) r 0 < 2 ^ 32
-        go true g = rw (← (eqb-true s r g), getD-set-same old s v 0 (omega arith), e) (or-lt 32 (getD old s 0) (2 ^ b) (f s) (pow-lt {i = b} {j = 32} (omega arith)))
+        go : (t : Bool) → eqb s r ≡ t → getD (set old s v) r 0 < 2 ^ wordWidth
+        go true g = rw (← (eqb-true s r g), getD-set-same old s v 0 (omega arith), e) (or-lt wordWidth (getD old s 0) (2 ^ b) (f s) (pow-lt {i = b} {j = wordWidth} (omega arith)))
         go false g = rw (getD-set-other old s r v 0 (λ z. eqb-false s r g (sym z))) (f r)
 
 -- the address bits of a node
@@ -235,7 +238,3 @@ marked-two old mid new s b n i0 i1 i2 i3 lo hi m p =
           ∙ group (wordBit (getD old r 0) c) (eqb s r) (eqb b c) (eqb (b + 1) c)
           ∙ ap (λ (x : ℕ). wordBit (getD old r 0) c || (eqb s r && (eqb b c || eqb x c))) (add-one b));
     }
-
--- a shift that stays within a word
-pub one-shifted : (b : ℕ) → b ≤ 31 → 1 * 2 ^ b % 4294967296 ≡ 2 ^ b
-one-shifted b h = let l : 2 ^ b < 2 ^ 32 = pow-lt {i = b} {j = 32} (omega arith) in let e : 1 * 2 ^ b ≡ 2 ^ b = omega arith in rw e (mod-eq-of-lt l)

@@ -23,7 +23,7 @@ use Rattle.network.specs.Line.{bytesAt, entryMeans, GoodEntry, IsLine}
 use Rattle.network.specs.declared.draft.Tally.{Tally}
 use Rattle.network.specs.declared.add.Added.{Added}
 use Rattle.network.specs.declared.reader.Lines.{Lines}
-use Rattle.network.specs.Draws.{Draws, Follows}
+use Rattle.network.specs.Draws.{Draws, Agrees}
 use Rattle.network.specs.Reads.{LineAdded, LinesAre, LinesRead}
 
 -- ---- a parsed line
@@ -37,7 +37,7 @@ module _ (l : Bytes) (p : ParsedLine) (is : IsLine l p) (e : Entry) (q : p .entr
 
 -- ---- what an answer says of the model's
 
-pub was-refused : (D : Draft → Type 0) (a : Result Draft) (r : Refusal) (number place : ℕ) → Follows D a r → r ≡ Refused number place → a ≡ refused number place
+pub was-refused : (D : Draft → Type 0) (a : Result Draft) (r : Refusal) (number place : ℕ) → Agrees D a r → r ≡ Refused number place → a ≡ refused number place
 was-refused D (ok e) r number place f q = absurd (let z : _≡_ {A = ℕ} 0 1 = differ (sym (f .0) ∙ q) in omega arith)
   where
     differ : Nothing ≡ Refused number place → _≡_ {A = ℕ} 0 1
@@ -49,7 +49,7 @@ pub record Went (D : Draft → Type 0) (a : Result Draft) : Type 0 where
   pub is : a ≡ ok draft
   pub drawn : D draft
 
-pub went-on : (D : Draft → Type 0) (a : Result Draft) (r : Refusal) → Follows D a r → r ≡ Nothing → Went D a
+pub went-on : (D : Draft → Type 0) (a : Result Draft) (r : Refusal) → Agrees D a r → r ≡ Nothing → Went D a
 went-on D (ok e) r f q = record { draft = e; is = refl; drawn = f .1 }
 went-on D (refused a b) r f q = absurd (let z : Nothing ≡ Refused a b = sym q ∙ f in let y : _≡_ {A = ℕ} 0 1 = cc in omega arith)
 

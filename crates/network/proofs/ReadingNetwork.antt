@@ -1,42 +1,39 @@
 -- Laws of the whole text: the empty arrays draw no lines, and what each ending says of `readNetwork`.
 -- Assumes nothing.
 use mathlib.Core.Path.{_≡_, refl, sym, ap, _∙_, subst}
-use mathlib.Core.Bool.{Bool, true, false, cond}
-use mathlib.Core.Option.{Option, none, some}
-use mathlib.Core.List.{List, [], _∷_}
-use Prim.Native.Nat.{ℕ, zero, suc, _+_, _*_, _/_, _%_, _^_, _≤_, _<_}
+use mathlib.Core.Bool.{Bool, true, false}
+use mathlib.Core.Option.{some}
+use mathlib.Core.List.{List}
+use Prim.Native.Nat.{ℕ, _≤_, _<_}
 use native.Mathlib.Omega.{arith}
 use lib.ListN.{length, getD, take, replicate, length-replicate}
-use lib.Dec.{eqb, leb, ltb}
+use lib.Dec.{eqb}
 use borrow.Author.Tests.{lt-ltb, le-ltb}
 use Rattle.model.specs.Result.{Result, ok, refused, refuseIf, andThen}
-use Rattle.model.specs.Text.{Bytes, Trit, parts, lineEnd}
-use Rattle.model.specs.Network.{Node, Config, Target, Network as ModelNetwork, totalBits, noNode, steers, heldOr, startOf}
-use Rattle.model.specs.Path.{Walk, path, stop, walk, walkFrom, nodeOf, bitOf, pathOf, pathLength}
+use Rattle.model.specs.Text.{Bytes, parts, lineEnd}
+use Rattle.model.specs.Network.{Node, Config, Target, Network as ModelNetwork, totalBits, steers, heldOr, startOf}
+use Rattle.model.specs.Path.{Walk, walk, pathOf, pathIn, pathLength}
 use Rattle.model.specs.NetworkText.{Draft, noLines, isHeld, networkOf, ifStarts, finish, readLines, readNetwork}
-use Rattle.model.proofs.Lists.{none-some, some-same}
-use Rattle.model.proofs.WellFormed.{GoodNode}
-use Rattle.model.proofs.Accepted.{good-node, no-bad}
-use Rattle.model.proofs.Reading.{Sound, Stage, no-out, behind-out, sound-start}
-use Rattle.path.specs.Layout.{nodesOf, wordBit, configOf, scanPath}
+use Rattle.model.proofs.Accepted.{draft-formed}
+use Rattle.model.proofs.Reading.{sound-start}
+use Rattle.path.specs.Layout.{nodesOf, wordWidth, wordBit, configOf, scanPath}
 use Rattle.path.specs.Answers.{Found, Walkable, told}
 use Rattle.path.specs.declared.walk.Walked.{Walked}
 use Rattle.path.specs.declared.walk.Walked.the-variants.{Path, Stop as Stopped}
 use Rattle.path.proofs.WordLaws.{zero-bit}
-use Rattle.path.proofs.ConfigLaws.{good-safe, found-config}
+use Rattle.path.proofs.StoredLaws.{Stored, stored-walkable, found-walk}
 use Rattle.network.specs.declared.draft.Tally.{Tally}
 use Rattle.network.specs.declared.add.Refusal.the-variants.{Nothing, Refused}
 use Rattle.network.specs.declared.reader.Lines.{Lines}
 use Rattle.network.specs.declared.reader.Network.{Network}
 use Rattle.network.specs.declared.reader.Verdict.the-variants.{Accepted, Refused as Rejected}
 use Rattle.network.specs.declared.reader.Reading.{Reading}
-use Rattle.network.specs.Store.{Small}
 use Rattle.network.specs.Draws.{feedsOf, Draws, emptyTally}
 use Rattle.network.specs.Start.{StartFilled}
 use Rattle.network.specs.Counts.{countFrom}
-use Rattle.network.specs.Reads.{LinesAre, LinesRead, networkOf as recorded, readingBy, noNetwork, FilledIf, Filled, IsReading}
+use Rattle.network.specs.Reads.{LinesAre, LinesRead, networkOf as recorded, readingBy, noNetwork, FilledIf, IsReading}
 use Rattle.network.proofs.Lines.{zero-at}
-use Rattle.network.proofs.Drawing.{drawn-out, drawn-count, drawn-words}
+use Rattle.network.proofs.Drawing.{drawn-out, drawn-words}
 use Rattle.network.proofs.Counting.{counts-steering}
 use Rattle.network.proofs.Starting.{start-config}
 
@@ -118,43 +115,22 @@ module _ (ns bits known steering held : List ℕ) (y : Tally) (d : Draft) (n : �
   fed : d .feeds ≡ some (y .out)
   fed = sym (w .out-is) ∙ ap (λ (b : Bool). feedsOf b (y .out)) q
 
-  record Fit : Type 0 where
-    good : (i : ℕ) → i < length (d .nodes) → GoodNode (d .nodes) (suc i) (getD (d .nodes) i noNode)
-    within : y .out ≤ length (d .nodes)
-
-  fit : Stage d n → Fit
-  fit (no-out p a b e) = absurd (none-some (y .out) (sym p ∙ fed))
-  fit (behind-out k p l b hs ts) = record {
-    good = λ i m. good-node (d .nodes) (suc i) (getD (d .nodes) i noNode) (w .sound .nodes-placed i m) (no-bad (d .nodes) (d .nodes) 1 b i m);
-    within = let e : k ≡ y .out = some-same k (y .out) (sym p ∙ fed) in omega arith;
-  }
-
-  stored-good : (i : ℕ) → i < length (nodesOf ns (y .count)) → GoodNode (nodesOf ns (y .count)) (suc i) (getD (nodesOf ns (y .count)) i noNode)
-  stored-good = subst (λ (l : List Node). (i : ℕ) → i < length l → GoodNode l (suc i) (getD l i noNode)) (sym (w .nodes-are)) (fit (w .sound .stage) .good)
-
-  out-within : y .out ≤ y .count
-  out-within = omega (arith, fit (w .sound .stage) .within, drawn-count ns bits known steering held y d n w)
+  -- the arrays hold the network of the draft
+  stored : Stored (networkOf d (y .out)) ns (y .count) (y .out)
+  stored = record { nodes = sym (w .nodes-are); feeds = refl; most = w .tame .nodes-fit; formed = draft-formed d n (y .out) (w .sound) fed }
 
   -- what `find_path` asks
   pub start-walkable : (way : List ℕ) → length way ≡ 128 → Walkable ns (y .out) way 0
-  start-walkable way e = record {
-    safe = λ k a b. good-safe ns (y .count) (w .tame .nodes-fit) stored-good k a (omega (arith, out-within));
-    size = e;
-    room = omega (arith, out-within, w .tame .nodes-fit);
-  }
+  start-walkable = stored-walkable (networkOf d (y .out)) ns (y .count) (y .out) stored
 
   module _ (bits′ known′ : List ℕ) (f : StartFilled bits known steering held (y .count) bits′ known′) (r : Walked) (way : List ℕ) (found : Found ns bits′ known′ (y .out) r way) where
     start-is : configOf ns bits′ known′ (y .count) ≡ startOf (d .nodes) (d .holds)
     start-is = start-config ns bits known steering held y d n w (drawn-out ns bits known steering held y d n w ∙ q) bits′ known′ f
 
-    stored-walk : walkFrom (nodeOf (nodesOf ns (y .count))) (bitOf (configOf ns bits′ known′ (y .count))) (y .out) (y .out) ≡ told ns way r
-    stored-walk = found-config ns (y .count) (w .tame .nodes-fit) stored-good bits′ known′ (y .out) r way out-within found
-
     start-walk : walk (networkOf d (y .out)) (networkOf d (y .out) .start) ≡ told ns way r
     start-walk =
-        ap (λ (c : Config). walkFrom (nodeOf (d .nodes)) (bitOf c) (y .out) (y .out)) (sym start-is)
-        ∙ ap (λ (l : List Node). walkFrom (nodeOf l) (bitOf (configOf ns bits′ known′ (y .count))) (y .out) (y .out)) (sym (w .nodes-are))
-        ∙ stored-walk
+        ap (walk (networkOf d (y .out))) (sym start-is)
+        ∙ found-walk (networkOf d (y .out)) ns (y .count) (y .out) stored bits′ known′ r way found
 
     finished : finish n d (d .feeds) ≡ ifStarts (networkOf d (y .out)) (told ns way r)
     finished = ap (finish n d) fed ∙ ap (ifStarts (networkOf d (y .out))) start-walk
@@ -167,14 +143,16 @@ module _ (ns bits known steering held : List ℕ) (y : Tally) (d : Draft) (n : �
       abbrev Written : Network
       Written = record { nodes = ns; bits = bits′; known = known′; steering = steering; tally = y; «steering_count» = count; «start_length» = len }
 
-      start-found : (k : ℕ) → r ≡ Path k → finish n d (d .feeds) ≡ ok (recorded Written)
-      start-found k e =
-          finished ∙ ap (λ (x : Walked). ifStarts (networkOf d (y .out)) (told ns way x)) e
-          ∙ ap (λ (c : Config). ok record { nodes = d .nodes; out = y .out; start = c; targets = d .targets }) (sym start-is)
-          ∙ ap (λ (l : List Node). ok record { nodes = l; out = y .out; start = configOf ns bits′ known′ (y .count); targets = d .targets }) (sym (w .nodes-are))
-          ∙ ap (λ (l : List Target). ok record { nodes = nodesOf ns (y .count); out = y .out; start = configOf ns bits′ known′ (y .count); targets = l }) (sym (w .targets-are))
+      recorded-is : networkOf d (y .out) ≡ recorded Written
+      recorded-is =
+          ap (λ (c : Config). record { nodes = d .nodes; out = y .out; start = c; targets = d .targets }) (sym start-is)
+          ∙ ap (λ (l : List Node). record { nodes = l; out = y .out; start = configOf ns bits′ known′ (y .count); targets = d .targets }) (sym (w .nodes-are))
+          ∙ ap (λ (l : List Target). record { nodes = nodesOf ns (y .count); out = y .out; start = configOf ns bits′ known′ (y .count); targets = l }) (sym (w .targets-are))
 
-      same-steering : (s b : ℕ) → s ≤ 128 → b < 32 → wordBit (getD steering s 0) b ≡ steers (nodesOf ns (y .count)) s b
+      start-found : (k : ℕ) → r ≡ Path k → finish n d (d .feeds) ≡ ok (recorded Written)
+      start-found k e = finished ∙ ap (λ (x : Walked). ifStarts (networkOf d (y .out)) (told ns way x)) e ∙ ap ok recorded-is
+
+      same-steering : (s b : ℕ) → s ≤ 128 → b < wordWidth → wordBit (getD steering s 0) b ≡ steers (nodesOf ns (y .count)) s b
       same-steering s b l m = w .steering-is s b l m ∙ ap (λ (x : List Node). steers x s b) (sym (w .nodes-are))
 
       pub reading-accepted : (t : Bytes) (k : ℕ) → readNetwork t ≡ finish n d (d .feeds) → r ≡ Path k
@@ -191,6 +169,6 @@ module _ (ns bits known steering held : List ℕ) (y : Tally) (d : Draft) (n : �
           steering-small = w .steering-small;
           totals = w .total-is ∙ ap totalBits (sym (w .nodes-are));
           counted = a ∙ counts-steering ns steering (y .count) (w .tame .nodes-fit) (drawn-words ns bits known steering held y d n w) same-steering;
-          start-long = b ∙ ap (λ (x : Walk). pathLength (pathOf x)) (sym (stored-walk ∙ ap (told ns way) e));
+          start-long = b ∙ ap (λ (x : Walk). pathLength (pathOf x)) (sym (start-walk ∙ ap (told ns way) e)) ∙ ap (λ (net : ModelNetwork). pathLength (pathIn net (net .start))) recorded-is;
         };
       }

@@ -14,20 +14,20 @@ use borrow.Author.Tests.{eq-eqb, ne-eqb, eqb-true, eqb-false}
 use Rattle.model.specs.Network.{Node, lenOf, mapFrom, tabulate, isSteering, heldOr, startBit, startOf}
 use Rattle.model.specs.NetworkText.{Draft, hasOut}
 use Rattle.model.proofs.Lists.{tabulate-cong}
-use Rattle.path.specs.Layout.{nodeAt, tritsOf, configOf}
+use Rattle.path.specs.Layout.{nodeAt, wordWidth, allKnown, tritsOf, configOf}
 use Rattle.path.proofs.WordLaws.{trits-zero, trits-unknown}
 use Rattle.network.specs.declared.draft.Tally.{Tally}
 use Rattle.network.specs.Draws.{Draws}
 use Rattle.network.proofs.Drawing.{drawn-node, drawn-short}
 use Rattle.network.proofs.AddingTargets.{not-steering, is-steering}
-use Rattle.network.specs.Start.{startBits, startMarks, OneFilled, StartFilled}
+use Rattle.network.specs.Start.{freeMarks, startBits, startMarks, OneFilled, StartFilled}
 
 pub one-held : (bits known steering held : List ℕ) (s : ℕ) → getD held s 0 ≡ 1 → OneFilled bits known steering held s bits known
 one-held bits known steering held s e =
     let t = eq-eqb (getD held s 0) 1 e in
     record { bits-size = refl; known-size = refl; word = rw t; mark = rw t; bits-others = λ r f. refl; known-others = λ r f. refl }
 
-pub one-free : (bits known steering held : List ℕ) (s v : ℕ) → (getD held s 0 ≡ 1 → ⊥) → s < length bits → s < length known → v ≡ cond (eqb (getD steering s 0) 0) 0 4294967295
+pub one-free : (bits known steering held : List ℕ) (s v : ℕ) → (getD held s 0 ≡ 1 → ⊥) → s < length bits → s < length known → v ≡ freeMarks (getD steering s 0)
     → OneFilled bits known steering held s (set bits s 0) (set known s v)
 one-free bits known steering held s v ne hb hk e =
     let t = ne-eqb (getD held s 0) 1 ne in
@@ -72,7 +72,7 @@ module _ (bits₀ known₀ steering held : List ℕ) where
       marks s l (yes h) m = q .known-others s (λ z. omega arith) ∙ p .marks s l h
       marks s l (no h) m =
           let z : i ≡ s = omega arith in
-          rw (← z) (q .mark ∙ ap (λ (x : ℕ). cond (eqb (getD held i 0) 1) x (cond (eqb (getD steering i 0) 0) 0 4294967295)) (p .known-later i (omega arith)))
+          rw (← z) (q .mark ∙ ap (λ (x : ℕ). cond (eqb (getD held i 0) 1) x (freeMarks (getD steering i 0))) (p .known-later i (omega arith)))
 
   pub filling-all : (i : ℕ) (bits known : List ℕ) (count : ℕ) → count < i → Filling bits₀ known₀ steering held i bits known → StartFilled bits₀ known₀ steering held count bits known
   filling-all i bits known count l p = record {
@@ -100,21 +100,21 @@ module _ (ns bits known steering held : List ℕ) (t : Tally) (d : Draft) (n : �
       len : ℕ
       len = lenOf (nodeAt ns s)
 
-      short : lenOf (nodeAt ns s) ≤ 32
+      short : lenOf (nodeAt ns s) ≤ wordWidth
       short = let e = ap lenOf (drawn-node ns bits known steering held t d n w s lo hi) in omega (arith, drawn-short ns bits known steering held t d n w s)
 
       within : s ≤ 128
       within = omega (arith, w .tame .nodes-fit)
 
       by-flag : (b z : Bool) → eqb (getD steering s 0) 0 ≡ z
-          → tritsOf (lenOf (nodeAt ns s)) (cond b (getD bits s 0) 0) (cond b (getD known s 0) (cond z 0 4294967295))
+          → tritsOf (lenOf (nodeAt ns s)) (cond b (getD bits s 0) 0) (cond b (getD known s 0) (cond z 0 allKnown))
           ≡ cond b (tritsOf (lenOf (nodeAt ns s)) (getD bits s 0) (getD known s 0)) (replicate (lenOf (nodeAt ns s)) (startBit (isSteering (d .nodes) s)))
       by-flag true z e = refl
       by-flag false true e =
           trits-unknown 0 (lenOf (nodeAt ns s))
           ∙ ap (λ (x : Bool). replicate (lenOf (nodeAt ns s)) (startBit x)) (sym (not-steering ns bits known steering held t d n w out s within (eqb-true (getD steering s 0) 0 e)))
       by-flag false false e =
-          trits-zero 32 (lenOf (nodeAt ns s)) short
+          trits-zero wordWidth (lenOf (nodeAt ns s)) short
           ∙ ap (λ (x : Bool). replicate (lenOf (nodeAt ns s)) (startBit x)) (sym (is-steering ns bits known steering held t d n w out s within (eqb-false (getD steering s 0) 0 e)))
 
   pub start-config : configOf ns bits′ known′ (t .count) ≡ startOf (d .nodes) (d .holds)

@@ -4,42 +4,31 @@ use mathlib.Core.Path.{_≡_}
 use mathlib.Core.Bool.{Bool, true}
 use mathlib.Core.List.{List, []}
 use Prim.Native.Nat.{ℕ, suc}
-use lib.ListN.{length}
-use lib.Dec.{leb}
-use Rattle.model.specs.Result.{Result, ok, refuseIf}
-use Rattle.model.specs.Network.{Target, read, write, lenOf, tabulate, isSteering}
+use Rattle.model.specs.Network.{read, write, lenOf, tabulate}
 use Rattle.path.specs.Layout.{nodeAt, wordBit}
 use Rattle.model.specs.Text.{Bytes, trit, bit, bitsFrom}
-use Rattle.model.specs.NetworkText.{Draft, isSome, hasOut, addNode, addOut, addHold, addTarget, fitsTarget, isTarget, targetSegment, withTarget}
+use Rattle.model.specs.NetworkText.{Draft, isSome, hasOut, addNode, addOut, addHold, fitsTarget, addFitting, addTarget}
 use Rattle.network.specs.declared.draft.Tally.{Tally}
 use Rattle.network.specs.declared.line.NodeData.{NodeData}
 use Rattle.network.specs.declared.add.Added.{Added}
 use Rattle.network.specs.declared.add.Refusal.{Refusal}
 use Rattle.network.specs.Line.{nodeFor, bitsIn}
-use Rattle.network.specs.Draws.{Draws, Follows, targetFor}
+use Rattle.network.specs.Draws.{Draws, Agrees, targetFor}
 
 abbrev pub NodeAdded : List ℕ → List ℕ → Tally → ℕ → NodeData → Added → List ℕ → List ℕ → Type 0
 NodeAdded ns steering t n x r ns′ steering′ =
     (bits known held : List ℕ) (d : Draft) → Draws ns bits known steering held t d n
-    → Follows (λ e. Draws ns′ bits known steering′ held (r .tally) e (suc n)) (addNode d n (nodeFor x)) (r .refusal)
+    → Agrees (λ e. Draws ns′ bits known steering′ held (r .tally) e (suc n)) (addNode d n (nodeFor x)) (r .refusal)
 
 abbrev pub OutAdded : List ℕ → Tally → ℕ → ℕ → Added → Type 0
 OutAdded ns t n k r =
     (bits known steering held : List ℕ) (d : Draft) → Draws ns bits known steering held t d n
-    → Follows (λ e. Draws ns bits known steering held (r .tally) e (suc n)) (addOut d n k) (r .refusal)
+    → Agrees (λ e. Draws ns bits known steering held (r .tally) e (suc n)) (addOut d n k) (r .refusal)
 
 abbrev pub HoldAdded : List ℕ → List ℕ → List ℕ → List ℕ → Tally → ℕ → ℕ → Bytes → Refusal → List ℕ → List ℕ → List ℕ → Type 0
 HoldAdded ns bits known held t n s f r bits′ known′ held′ =
     (steering : List ℕ) (d : Draft) → isSome (bitsFrom trit [] f) ≡ true → Draws ns bits known steering held t d n
-    → Follows (λ e. Draws ns bits′ known′ steering held′ t e (suc n)) (addHold d n s (bitsIn trit f)) r
-
--- the checks of a target behind 4 and the first two of 6
-unfoldable pub targetRest : Draft → ℕ → Target → Result Draft
-targetRest d n t =
-    refuseIf (isTarget (d .targets) t) 6 n
-    (refuseIf (isSteering (d .nodes) (targetSegment t)) 7 n
-    (refuseIf (leb 4 (length (d .targets))) 8 n
-    (ok (withTarget d t))))
+    → Agrees (λ e. Draws ns bits′ known′ steering held′ t e (suc n)) (addHold d n s (bitsIn trit f)) r
 
 -- the bits of a write target are those of its word
 abbrev pub IsWord : List ℕ → Bool → ℕ → ℕ → List Bool → Type 0
@@ -49,14 +38,14 @@ abbrev pub TargetAdded : List ℕ → Tally → ℕ → ℕ → Bool → ℕ →
 TargetAdded steering t n s w word r =
     (ns bits known held : List ℕ) (bs : List Bool) (d : Draft) → hasOut d ≡ true → fitsTarget (d .nodes) (targetFor w s bs) ≡ true → IsWord ns w s word bs
     → Draws ns bits known steering held t d n
-    → Follows (λ e. Draws ns bits known steering held (r .tally) e (suc n)) (targetRest d n (targetFor w s bs)) (r .refusal)
+    → Agrees (λ e. Draws ns bits known steering held (r .tally) e (suc n)) (addFitting d n (targetFor w s bs)) (r .refusal)
 
 abbrev pub ReadAdded : List ℕ → List ℕ → Tally → ℕ → ℕ → Added → Type 0
 ReadAdded ns steering t n s r =
     (bits known held : List ℕ) (d : Draft) → Draws ns bits known steering held t d n
-    → Follows (λ e. Draws ns bits known steering held (r .tally) e (suc n)) (addTarget d n (read s)) (r .refusal)
+    → Agrees (λ e. Draws ns bits known steering held (r .tally) e (suc n)) (addTarget d n (read s)) (r .refusal)
 
 abbrev pub WriteAdded : List ℕ → List ℕ → Tally → ℕ → ℕ → Bytes → Added → Type 0
 WriteAdded ns steering t n s f r =
     (bits known held : List ℕ) (d : Draft) → isSome (bitsFrom bit [] f) ≡ true → Draws ns bits known steering held t d n
-    → Follows (λ e. Draws ns bits known steering held (r .tally) e (suc n)) (addTarget d n (write s (bitsIn bit f))) (r .refusal)
+    → Agrees (λ e. Draws ns bits known steering held (r .tally) e (suc n)) (addTarget d n (write s (bitsIn bit f))) (r .refusal)

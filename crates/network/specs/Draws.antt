@@ -13,7 +13,7 @@ use Rattle.model.specs.Network.{Target, read, write, lenOf, totalBits, tabulate
 use Rattle.model.specs.NetworkText.{Draft, isHeld, isTarget}
 use Rattle.model.proofs.LineForms.{GoodForm}
 use Rattle.model.proofs.Reading.{Sound}
-use Rattle.path.specs.Layout.{nodeAt, nodesOf, wordBit, tritsOf}
+use Rattle.path.specs.Layout.{nodeAt, nodesOf, wordWidth, wordBit, tritsOf}
 use Rattle.network.specs.Store.{Small}
 use Rattle.network.specs.declared.draft.Tally.{Tally}
 use Rattle.network.specs.declared.add.Refusal.{Refusal}
@@ -52,12 +52,12 @@ Formed ns count = (k : ℕ) → 1 ≤ k → k ≤ count → GoodForm (nodeAt ns 
 
 -- no segment is longer than a word
 abbrev pub Short : List ℕ → ℕ → Type 0
-Short ns count = (k : ℕ) → 1 ≤ k → k ≤ count → lenOf (nodeAt ns k) ≤ 32
+Short ns count = (k : ℕ) → 1 ≤ k → k ≤ count → lenOf (nodeAt ns k) ≤ wordWidth
 
 -- a number, or 0 for none
-abbrev pub firstOf : ℕ → Option ℕ
-firstOf zero = none
-firstOf (suc k) = some (suc k)
+abbrev pub ifNonzero : ℕ → Option ℕ
+ifNonzero zero = none
+ifNonzero (suc k) = some (suc k)
 
 -- the counts are within the arrays
 pub record Tame (t : Tally) : Type 0 where
@@ -84,7 +84,7 @@ pub record Draws (ns bits known steering held : List ℕ) (t : Tally) (d : Draft
   pub out-is : feedsOf (t .«has_out») (t .out) ≡ d .feeds
   pub targets-are : targetsOf ns t ≡ d .targets
   -- bit b of a segment's word of steering bits
-  pub steering-is : (s b : ℕ) → s ≤ 128 → b < 32 → wordBit (getD steering s 0) b ≡ steers (d .nodes) s b
+  pub steering-is : (s b : ℕ) → s ≤ 128 → b < wordWidth → wordBit (getD steering s 0) b ≡ steers (d .nodes) s b
   pub steering-small : Small steering
   -- a segment's flag of a `hold` line, and its start bits
   pub held-is : (s : ℕ) → s ≤ 128 → eqb (getD held s 0) 1 ≡ isHeld (d .holds) s
@@ -107,7 +107,7 @@ emptyTally = record {
 abbrev pub Drafted : List ℕ → List ℕ → List ℕ → List ℕ → List ℕ → Tally → ℕ → Type 0
 Drafted ns bits known steering held t n = (d : Draft) × Draws ns bits known steering held t d n
 
--- an answer that follows the model's: the refusal, or nothing refused and D of the new draft
-abbrev pub Follows : (Draft → Type 0) → Result Draft → Refusal → Type 0
-Follows D (ok e) r = (r ≡ Nothing) × D e
-Follows D (refused number place) r = r ≡ Refused number place
+-- an answer that agrees with the model's: the refusal, or nothing refused and D of the new draft
+abbrev pub Agrees : (Draft → Type 0) → Result Draft → Refusal → Type 0
+Agrees D (ok e) r = (r ≡ Nothing) × D e
+Agrees D (refused number place) r = r ≡ Refused number place

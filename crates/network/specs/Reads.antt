@@ -10,7 +10,7 @@ use Rattle.model.specs.Text.{Bytes, parts, lineEnd}
 use Rattle.model.specs.Network.{Network as ModelNetwork, totalBits, steers, steeringBits}
 use Rattle.model.specs.Path.{pathIn, pathLength}
 use Rattle.model.specs.NetworkText.{Draft, noLines, lineOf, addLine, readLines, readNetwork}
-use Rattle.path.specs.Layout.{nodesOf, wordBit, configOf}
+use Rattle.path.specs.Layout.{nodesOf, wordWidth, wordBit, configOf}
 use Rattle.network.specs.declared.draft.Tally.{Tally}
 use Rattle.network.specs.declared.add.Added.{Added}
 use Rattle.network.specs.declared.add.Refusal.the-variants.{Nothing, Refused}
@@ -20,14 +20,14 @@ use Rattle.network.specs.declared.reader.Verdict.{Verdict}
 use Rattle.network.specs.declared.reader.Verdict.the-variants.{Accepted, Refused as Rejected}
 use Rattle.network.specs.declared.reader.Reading.{Reading}
 use Rattle.network.specs.Store.{Small}
-use Rattle.network.specs.Draws.{Draws, Follows, Tame, targetsOf, emptyTally}
+use Rattle.network.specs.Draws.{Draws, Agrees, Tame, targetsOf, emptyTally}
 
 -- ---- one line, and the lines in turn
 
 abbrev pub LineAdded : List ℕ → List ℕ → List ℕ → List ℕ → List ℕ → Tally → Bytes → ℕ → Added → List ℕ → List ℕ → List ℕ → List ℕ → List ℕ → Type 0
 LineAdded ns bits known steering held t line n r ns′ bits′ known′ steering′ held′ =
     (d : Draft) → Draws ns bits known steering held t d n
-    → Follows (λ e. Draws ns′ bits′ known′ steering′ held′ (r .tally) e (suc n)) (addLine d n (lineOf line)) (r .refusal)
+    → Agrees (λ e. Draws ns′ bits′ known′ steering′ held′ (r .tally) e (suc n)) (addLine d n (lineOf line)) (r .refusal)
 
 abbrev pub LinesAre : List ℕ → List ℕ → List ℕ → List ℕ → List ℕ → Result (ℕ × Draft) → Lines → Type 0
 LinesAre ns bits known steering held (ok nd) r = (r .refusal ≡ Nothing) × (r .next ≡ nd .0) × Draws ns bits known steering held (r .tally) (nd .1) (nd .0)
@@ -63,7 +63,7 @@ pub record Filled (r : Network) : Type 0 where
   pub known-size : length (r .known) ≡ 129
   pub steering-size : length (r .steering) ≡ 129
   pub tame : Tame (r .tally)
-  pub steering-is : (s b : ℕ) → s ≤ 128 → b < 32 → wordBit (getD (r .steering) s 0) b ≡ steers (nodesOf (r .nodes) (r .tally .count)) s b
+  pub steering-is : (s b : ℕ) → s ≤ 128 → b < wordWidth → wordBit (getD (r .steering) s 0) b ≡ steers (nodesOf (r .nodes) (r .tally .count)) s b
   pub steering-small : Small (r .steering)
   pub totals : r .tally .total ≡ totalBits (networkOf r .nodes)
   pub counted : r .«steering_count» ≡ length (steeringBits (networkOf r .nodes))

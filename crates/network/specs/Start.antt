@@ -6,13 +6,18 @@ use mathlib.Core.List.{List}
 use Prim.Native.Nat.{ℕ, _≤_, _<_}
 use lib.ListN.{length, getD}
 use lib.Dec.{eqb}
+use Rattle.path.specs.Layout.{allKnown}
+
+-- the known marks of a segment without a `hold` line, by its word of steering bits
+abbrev pub freeMarks : ℕ → ℕ
+freeMarks steering = cond (eqb steering 0) 0 allKnown
 
 -- the two words of segment s once it is filled
 abbrev pub startBits : List ℕ → List ℕ → ℕ → ℕ
 startBits bits held s = cond (eqb (getD held s 0) 1) (getD bits s 0) 0
 
 abbrev pub startMarks : List ℕ → List ℕ → List ℕ → ℕ → ℕ
-startMarks known steering held s = cond (eqb (getD held s 0) 1) (getD known s 0) (cond (eqb (getD steering s 0) 0) 0 4294967295)
+startMarks known steering held s = cond (eqb (getD held s 0) 1) (getD known s 0) (freeMarks (getD steering s 0))
 
 -- one segment is filled, the others are as they were
 pub record OneFilled (bits known steering held : List ℕ) (s : ℕ) (bits′ known′ : List ℕ) : Type 0 where

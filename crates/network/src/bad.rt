@@ -9,7 +9,7 @@ ghost use mathlib.Core.Path.{_≡_};
 ghost use Prim.Native.Nat.{_≤_};
 ghost use Rattle.model.specs.NetworkText.{badAddress, firstBad};
 ghost use Rattle.path.specs.Layout.{nodeAt, nodesOf};
-ghost use Rattle.network.specs.Draws.{Formed, firstOf};
+ghost use Rattle.network.specs.Draws.{Formed, ifNonzero};
 
 // Whether node k of count is such a multiplexer.
 fn is_bad(nodes: &Nodes, count: usize, k: usize) -> bool
@@ -44,7 +44,7 @@ fn is_bad(nodes: &Nodes, count: usize, k: usize) -> bool
 // The number of the first such multiplexer, or 0.
 pub fn first_bad(nodes: &Nodes, count: usize) -> usize
     requires { ⌜ (count ≤ 128) × Formed (now nodes) count ⌝ }
-    ensures { λ r. ⌜ firstOf r ≡ firstBad (nodesOf (now (nodes .entry)) count) 1 (nodesOf (now (nodes .entry)) count) ⌝ }
+    ensures { λ r. ⌜ ifNonzero r ≡ firstBad (nodesOf (now (nodes .entry)) count) 1 (nodesOf (now (nodes .entry)) count) ⌝ }
 {
     let mut k: usize = 1;
     while k <= count {

@@ -1,8 +1,10 @@
 // The network as far as it is read: counts and targets go by value, the arrays are lent.
 use crate::line::NodeData;
 use path::layout::Nodes;
+use path::layout::WORD_BITS;
 use path::layout::Word;
 use path::layout::Words;
+use path::words::only_bit;
 ghost use mathlib.Core.Path.{_≡_};
 ghost use mathlib.Core.Bool.{cond};
 ghost use Prim.Native.Nat.{_<_, _≤_};
@@ -11,7 +13,7 @@ ghost use Rattle.model.specs.Network.{lenOf};
 ghost use Rattle.model.specs.NetworkText.{outside, anyFrom};
 ghost use Rattle.path.specs.Layout.{nodeAt};
 ghost use Rattle.network.specs.Line.{nodeFor, inputsOf, SmallNode};
-ghost use Rattle.network.specs.Store.{Row, Stored, Marked};
+ghost use Rattle.network.specs.Store.{Row, RowStored, Marked};
 
 // Counts, the node that feeds scan-out, and the targets: a target's word is 1 for `write` and 0 for `read`.
 pub struct Tally {
@@ -151,7 +153,7 @@ pub fn row_of(x: NodeData) -> [u16; 8]
 // The eight numbers go to node k.
 pub fn store_row(nodes: &mut Nodes, k: usize, row: [u16; 8])
     requires { ⌜ (k ≤ 128) × (length (now nodes) ≡ 1032) × (length row ≡ 8) ⌝ }
-    ensures { λ _. ⌜ Stored (now (nodes .entry)) k row (now (nodes .exit)) ⌝ }
+    ensures { λ _. ⌜ RowStored (now (nodes .entry)) k row (now (nodes .exit)) ⌝ }
 {
     let base = k * 8;
     let mut i: usize = 0;
@@ -197,10 +199,9 @@ fn mark_bit(steering: &mut Words, s: usize, b: usize)
     if 128 < s {
         return;
     }
-    if 31 < b {
+    if WORD_BITS <= b {
         return;
     }
-    let one: Word = 1;
     let w = steering[s];
-    steering[s] = w | (one << b);
+    steering[s] = w | only_bit(b);
 }

@@ -1,21 +1,20 @@
 // The start bits of segments without a `hold` line: all 0 in steering segments, all unknown in others.
+use path::layout::ALL_KNOWN;
 use path::layout::Word;
 use path::layout::Words;
 ghost use lib.ListN.{length};
 ghost use mathlib.Core.Path.{_≡_};
-ghost use mathlib.Core.Bool.{cond};
-ghost use lib.Dec.{eqb};
 ghost use Prim.Native.Nat.{_≤_};
-ghost use Rattle.network.specs.Start.{OneFilled, StartFilled};
+ghost use Rattle.network.specs.Start.{freeMarks, OneFilled, StartFilled};
 
 // The word of known marks that a segment starts with, by its word of steering bits.
 fn start_marks(steering: Word) -> Word
-    ensures { λ r. ⌜ r ≡ cond (eqb steering 0) 0 4294967295 ⌝ }
+    ensures { λ r. ⌜ r ≡ freeMarks steering ⌝ }
 {
     if steering == 0 {
         return 0;
     }
-    4294967295
+    ALL_KNOWN
 }
 
 // The words of segment s, unless a `hold` line gave them.

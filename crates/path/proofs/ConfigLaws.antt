@@ -147,7 +147,7 @@ module _ (ns : List ℕ) (count : ℕ) (most : count ≤ 128)
               (step-below (bitOf (configOf ns bits known count)) m (nodeAt ns m) (good-safe m a b));
         })
 
-    -- what `find_path` answers, where the network is not complete yet
+    -- what `find_path` answers
     pub found-config : (out : ℕ) (r : Walked) (way : List ℕ) → out ≤ count → Found ns bits known out r way
         → walkFrom (nodeOf (nodesOf ns count)) (bitOf (configOf ns bits known count)) out out ≡ told ns way r
     found-config out r way l f = walk-config out out l ∙ f .tells

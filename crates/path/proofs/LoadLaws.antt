@@ -4,7 +4,7 @@ use mathlib.Core.Path.{_≡_, refl, sym, ap, subst, _∙_}
 use mathlib.Core.Bool.{Bool, true, false, cond, _||_}
 use mathlib.Core.Option.{some}
 use mathlib.Core.List.{List, [], _∷_, map}
-use Prim.Native.Nat.{ℕ, zero, suc, _+_, _-_, _^_, _<_, _≤_}
+use Prim.Native.Nat.{ℕ, zero, suc, _+_, _-_, _<_, _≤_}
 use native.Mathlib.Nat.{zero-add}
 use native.Mathlib.Omega.{arith}
 use borrow.Author.Tests.{ne-eqb, eqb-false}
@@ -15,7 +15,7 @@ use Rattle.model.specs.Network.{lenOf, mapFrom, tabulate}
 use Rattle.model.specs.Path.{ScanPath, on, share, loads, csu, pathLength}
 use Rattle.model.specs.Text.{Trit}
 use Rattle.model.proofs.Lists.{eqb-is, take-map, drop-map, tabulate-cong}
-use Rattle.path.specs.Layout.{nodeAt, wordWidth, tritsOf, configOf, segmentAt, scanPath, Way, byteBit}
+use Rattle.path.specs.Layout.{nodeAt, wordWidth, allKnown, tritsOf, configOf, segmentAt, scanPath, Way, byteBit}
 use Rattle.path.specs.Words.{wordOf}
 use Rattle.path.specs.Answers.{Sized, Loadable, Loads}
 use Rattle.path.proofs.PathLaws.{SegmentOn}
@@ -77,7 +77,7 @@ module _ (ns way : List ℕ) (n : ℕ) (scan bits₀ known₀ : List ℕ) (i p :
     bits′ = set bits k w
 
     abbrev known′ : List ℕ
-    known′ = set known k (2 ^ wordWidth - 1)
+    known′ = set known k allKnown
 
     -- its own row
     loaded-row : rowAfter rest (drop (p + len) (bitsIn scan)) k (row ns bits′ known′ k) ≡ take (lenOf (nodeAt ns k)) (drop p (bitsIn scan))
@@ -85,7 +85,7 @@ module _ (ns way : List ℕ) (n : ℕ) (scan bits₀ known₀ : List ℕ) (i p :
         rw (
           later-off ns k (drop (i + 1) (take n way)) k (omega arith) (on-way .later),
           getD-set-same bits k w 0 (omega (arith, on-way .below, l .sized .words)),
-          getD-set-same known k (2 ^ wordWidth - 1) 0 (omega (arith, on-way .below, l .sized .marks)),
+          getD-set-same known k allKnown 0 (omega (arith, on-way .below, l .sized .marks)),
           ← is,
           word,
         )
@@ -95,7 +95,7 @@ module _ (ns way : List ℕ) (n : ℕ) (scan bits₀ known₀ : List ℕ) (i p :
     other-row : (j : ℕ) → eqb k j ≡ false → row ns bits′ known′ j ≡ row ns bits known j
     other-row j e =
         let ne : j ≡ k → ⊥ = λ q. eqb-false k j e (sym q) in
-        rw (getD-set-other bits k j w 0 ne, getD-set-other known k j (2 ^ wordWidth - 1) 0 ne)
+        rw (getD-set-other bits k j w 0 ne, getD-set-other known k j allKnown 0 ne)
 
     row-more : (j : ℕ) → rowAfter rest (drop (p + len) (bitsIn scan)) j (row ns bits′ known′ j) ≡ rowAfter (segmentAt ns k ∷ rest) (drop p (bitsIn scan)) j (row ns bits known j)
     row-more j = go (eqb k j) refl
@@ -112,7 +112,7 @@ module _ (ns way : List ℕ) (n : ℕ) (scan bits₀ known₀ : List ℕ) (i p :
     loading-more =
         let more = ap (λ (ks : List ℕ). pathLength (scanPath ns ks)) (on-way .splits) in
         record {
-          sized = record { words = length-set bits k w ∙ l .sized .words; marks = length-set known k (2 ^ wordWidth - 1) ∙ l .sized .marks };
+          sized = record { words = length-set bits k w ∙ l .sized .words; marks = length-set known k allKnown ∙ l .sized .marks };
           left = omega (arith, l .left);
           rows = λ j. row-more j ∙ ap (λ (ks : List ℕ). rowAfter (scanPath ns ks) (drop p (bitsIn scan)) j (row ns bits known j)) (sym (on-way .splits)) ∙ l .rows j;
         }

@@ -48,6 +48,10 @@ pair-mask w i =
 
 -- ---- one place
 
+-- the word whose only bit is i
+pub only-place : (width i : ℕ) → i < width → 1 * 2 ^ i % 2 ^ width ≡ 2 ^ i
+only-place width i h = shl-exact 1 i width (omega arith) (omega arith) ∙ omega arith
+
 -- b becomes the lowest bit of a word of k bits
 pub low-place : (width k w b : ℕ) → b < 2 → w < 2 ^ k → k + 1 ≤ width → bitOr (w * 2 ^ 1 % 2 ^ width) b ≡ b + 2 * w
 low-place width k w b hb hw hk =

@@ -3,7 +3,7 @@
 use mathlib.Core.Bool.{Bool, cond}
 use mathlib.Core.Option.{none, some}
 use mathlib.Core.List.{List, [], _∷_, map}
-use Prim.Native.Nat.{ℕ, _+_, _*_, _/_, _%_, _^_, _≤_, _<_}
+use Prim.Native.Nat.{ℕ, _+_, _-_, _*_, _/_, _%_, _^_, _≤_, _<_}
 use lib.ListN.{length, getD}
 use lib.Dec.{eqb, ltb}
 use Rattle.model.specs.Text.{Trit}
@@ -37,6 +37,10 @@ nodesOf ns count = tabulate (nodeAt ns) 1 count
 -- the bits of a word; a segment has no more
 abbrev pub wordWidth : ℕ
 wordWidth = 32
+
+-- the word with all bits set
+abbrev pub allKnown : ℕ
+allKnown = 2 ^ wordWidth - 1
 
 abbrev pub wordBit : ℕ → ℕ → Bool
 wordBit w b = eqb (w / 2 ^ b % 2) 1

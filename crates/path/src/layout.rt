@@ -30,7 +30,10 @@ pub const BIT: usize = 2;
 pub const INPUTS: usize = 4;
 
 // A word of known marks with every bit known.
-pub const ALL_KNOWN: Word = 4294967295;
+pub const ALL_KNOWN: Word = !0;
+
+// The bits of a word. ALL_KNOWN / 255 is 1 in each byte, and modulo 255 it is the count of bytes.
+pub const WORD_BITS: usize = (ALL_KNOWN / 255 % 255 * 8) as usize;
 
 // A number of the record as an index.
 pub fn wide(x: u16) -> usize

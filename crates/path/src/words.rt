@@ -8,12 +8,36 @@ ghost use Rattle.model.specs.Path.{bitValue};
 ghost use Rattle.path.specs.Layout.{wordWidth, wordBit, byteBit};
 ghost use Rattle.path.specs.Words.{shiftIn, wordOf, wordFrom, byteKnown};
 
+// A place of a word, as the count of a shift.
+fn shift_to(i: usize) -> Word
+    requires { ⌜ i < wordWidth ⌝ }
+    ensures { λ r. ⌜ r ≡ i ⌝ }
+{
+    i as Word
+}
+
+// A word as an index.
+fn as_index(w: Word) -> usize
+    ensures { λ r. ⌜ r ≡ w ⌝ }
+{
+    w as usize
+}
+
+// The word whose only bit is i.
+pub fn only_bit(i: usize) -> Word
+    requires { ⌜ i < wordWidth ⌝ }
+    ensures { λ r. ⌜ r ≡ 2 ^ i ⌝ }
+{
+    let one: Word = 1;
+    one << shift_to(i)
+}
+
 // Bit i of a word.
 pub fn bit_at(w: Word, i: usize) -> usize
     requires { ⌜ i < wordWidth ⌝ }
     ensures { λ r. ⌜ r ≡ bitValue (wordBit w i) ⌝ }
 {
-    ((w >> i) & 1) as usize
+    as_index((w >> shift_to(i)) & 1)
 }
 
 // Bits i and i + 1 of a word, as a number below 4.
@@ -21,7 +45,7 @@ pub fn pair_at(w: Word, i: usize) -> usize
     requires { ⌜ i < wordWidth ⌝ }
     ensures { λ r. ⌜ r ≡ bitValue (wordBit w i) + 2 * bitValue (wordBit w (suc i)) ⌝ }
 {
-    ((w >> i) & 3) as usize
+    as_index((w >> shift_to(i)) & 3)
 }
 
 // The word of len bits with b shifted in at the top, and the lowest bit gone.
@@ -29,7 +53,7 @@ pub fn shifted_in(w: Word, b: Word, len: usize) -> Word
     requires { ⌜ (b < 2) × ((1 ≤ len) × ((len ≤ wordWidth) × (w < 2 ^ len))) ⌝ }
     ensures { λ r. ⌜ (r ≡ shiftIn len w b) × (r < 2 ^ len) ⌝ }
 {
-    (w >> 1) | (b << (len - 1))
+    (w >> 1) | (b << shift_to(len - 1))
 }
 
 // The bit that a byte `0` or `1` stands for.

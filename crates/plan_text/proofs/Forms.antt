@@ -3,7 +3,7 @@
 use mathlib.Core.Path.{_≡_, refl, sym, ap, _∙_}
 use mathlib.Core.Bool.{Bool, true, false}
 use mathlib.Core.Option.{Option, none, some}
-use mathlib.Core.List.{List, [], _∷_, _++_, map}
+use mathlib.Core.List.{List, [], _∷_, _++_}
 use Prim.Native.Nat.{ℕ, suc, _+_, _≤_, _<_}
 use native.Mathlib.Omega.{arith}
 use native.Mathlib.Numerals.{add-one}
@@ -11,55 +11,32 @@ use lib.ListN.{length, drop, drop-of-length-le, length-drop}
 use lib.Seq.{drop-drop}
 use borrow.Author.Tests.{lt-ltb, le-ltb}
 use Rattle.model.specs.Result.{Result, ok, refused, andThen}
-use Rattle.model.specs.Text.{Bytes, bind, lineEnd, parts, same}
+use Rattle.model.specs.Text.{Bytes, bind, lineEnd, parts}
 use Rattle.model.specs.Plan.{Plan}
-use Rattle.model.specs.PlanText.{scanBits, csuLine, ifForm, before, planLines, readPlan, writePlan}
+use Rattle.model.specs.PlanText.{csuLine, ifForm, before, planLines, readPlan, writePlan}
 use Rattle.model.specs.NetworkText.{atEnd}
-use Rattle.model.specs.Tap.{bitByte}
 use Rattle.model.proofs.Lists.{none-some, some-same, not-ok, ok-is, refusal-number, refusal-place, handed}
 use Rattle.model.proofs.LineForms.{bound}
-use Rattle.model.proofs.PlanTexts.{joined, parts-more, parts-joined, csuBytes, csu-bytes, text-of}
+use Rattle.model.proofs.PlanTexts.{joined, parts-more, parts-joined, parts-line, csuBytes, csu-free, csu-written, csu-bytes, text-of}
 use Rattle.plan_text.specs.Lines.{firstLine, nextFrom}
 use Rattle.plan_text.specs.declared.Form.{Form}
 use Rattle.plan_text.specs.declared.Form.the-variants.{Good, Refused}
 use Rattle.plan_text.specs.Form.{formOf, planForm}
 use Rattle.plan_text.proofs.Lines.{first-written, first-text, first-room}
 
--- ---- the parts of a text whose first line has good form
-
-parts-bits : (bs : List Bool) (t : Bytes) → parts lineEnd (map bitByte bs ++ lineEnd ∷ t) ≡ map bitByte bs ∷ parts lineEnd t
-unfolding parts
-parts-bits [] t = refl
-parts-bits (true ∷ bs) t = rw (parts-bits bs t)
-parts-bits (false ∷ bs) t = rw (parts-bits bs t)
-
-parts-csu : (bs : List Bool) (t : Bytes) → parts lineEnd (csuBytes bs ++ lineEnd ∷ t) ≡ csuBytes bs ∷ parts lineEnd t
-unfolding parts
-parts-csu bs t = rw (parts-bits bs t)
-
-scan-bits : (bs : List Bool) → scanBits (map bitByte bs) ≡ some bs
-unfolding scanBits
-scan-bits [] = refl
-scan-bits (true ∷ bs) = rw (scan-bits bs)
-scan-bits (false ∷ bs) = rw (scan-bits bs)
-
-csu-line : (bs : List Bool) → csuLine (csuBytes bs) ≡ some bs
-unfolding csuLine same
-csu-line bs = scan-bits bs
-
 -- ---- the lines from number n on
 
 by-line : (n : ℕ) (bs : List Bool) (ls : List Bytes) (p : Bytes) (ps : List Bytes) → ls ≡ p ∷ ps → n ≤ 16
     → planLines n (csuBytes bs ∷ ls) ≡ andThen (planLines (suc n) ls) (before bs)
 unfolding planLines
-by-line n bs ls p ps e h = rw e (rw (csu-line bs, le-ltb 16 n h))
+by-line n bs ls p ps e h = rw e (rw (csu-written bs, le-ltb 16 n h))
 
 lines-good : (n : ℕ) (t : Bytes) (bs : List Bool) → n ≤ 16 → firstLine t ≡ some bs
     → planLines n (parts lineEnd t) ≡ andThen (planLines (suc n) (parts lineEnd (drop (5 + length bs) t))) (before bs)
 lines-good n t bs h e =
     let u = drop (5 + length bs) t in
     let m = parts-more lineEnd u in
-    ap (λ (x : Bytes). planLines n (parts lineEnd x)) (first-text t bs e) ∙ ap (planLines n) (parts-csu bs u) ∙ by-line n bs (parts lineEnd u) (m .0) (m .1) (m .2) h
+    ap (λ (x : Bytes). planLines n (parts lineEnd x)) (first-text t bs e) ∙ ap (planLines n) (parts-line lineEnd (csuBytes bs) u (csu-free bs)) ∙ by-line n bs (parts lineEnd u) (m .0) (m .1) (m .2) h
 
 -- a text that is refused whatever its first line is, if that is ended
 lines-refused : (n : ℕ) (t : Bytes) → 0 < length t → ((l u : Bytes) → t ≡ l ++ lineEnd ∷ u → (go : List Bool → Result Plan) → ifForm n (csuLine l) go ≡ refused 14 n)

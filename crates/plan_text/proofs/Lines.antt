@@ -14,22 +14,13 @@ use Rattle.model.specs.Text.{Bytes, bytes, lineEnd, same}
 use Rattle.model.specs.Plan.{Plan}
 use Rattle.model.specs.PlanText.{writePlan}
 use Rattle.model.specs.Tap.{bitByte}
-use Rattle.model.proofs.Lists.{and-parts, true-false, none-some, some-same}
-use Rattle.model.proofs.PlanTexts.{csuBytes, length-line}
+use Rattle.model.proofs.Lists.{none-some, some-same}
+use Rattle.model.proofs.PlanTexts.{csuBytes, same-is, length-line}
 use Rattle.text.proofs.Words.{same-length}
 use Rattle.plan_text.specs.Lines.{bitRun, ended, firstLine, nextFrom}
 use Rattle.plan_text.proofs.Bits.{run-front, run-written}
 
 -- ---- a first line of good form
-
-pub same-is : (a b : Bytes) → same a b ≡ true → a ≡ b
-unfolding same
-same-is [] [] e = refl
-same-is [] (y ∷ b) e = absurd (true-false (sym e))
-same-is (x ∷ a) [] e = absurd (true-false (sym e))
-same-is (x ∷ a) (y ∷ b) e =
-    let f = and-parts (eqb x y) (same a b) e in
-    ap (λ (k : ℕ). k ∷ a) (eqb-true x y (f .0)) ∙ ap (λ (l : Bytes). y ∷ l) (same-is a b (f .1))
 
 -- a byte other than 0 lies in the text
 getD-inside : (t : Bytes) (n : ℕ) → (getD t n 0 ≡ 0 → ⊥) → n < length t

@@ -12,7 +12,7 @@ use Rattle.model.specs.Calls.{writeOver}
 use Rattle.model.proofs.Lists.{some-same}
 use Rattle.search.specs.Search.{Sys, planIn, planUpTo, marks, FirstAt, ifGoal}
 use Rattle.search.specs.Moves.{count, MoveTable, reached, goes, sysOf}
-use Rattle.search.specs.Marks.{Settled, Wrote, written, foundOf}
+use Rattle.search.specs.Marks.{Settled, Wrote, withChoices, foundOf}
 use Rattle.search.specs.declared.marks.Found.the-variants.{Operations}
 use Rattle.search.proofs.Least.{known-of, Taken, taken, answer-known, answer-unknown}
 use Rattle.search.proofs.MarkTable.{to-within}
@@ -139,7 +139,7 @@ walking-end mv full start tab old out s d i h le =
 pub answer-none : (mv : List ℕ) (full start : ℕ) (tab : List ℕ) → Settled mv full start tab → getD tab start 0 ≡ 0 → planUpTo (sysOf mv full) 16 start ≡ none
 answer-none mv full start tab h z = answer-unknown (sysOf mv full) 16 start (h .final z)
 
-pub written-plan : (mv : List ℕ) (full start : ℕ) (old out : List ℕ) (r : ℕ) → Wrote mv full start old out r → out ≡ written (planUpTo (sysOf mv full) 16 start) old
+pub written-plan : (mv : List ℕ) (full start : ℕ) (old out : List ℕ) (r : ℕ) → Wrote mv full start old out r → out ≡ withChoices (planUpTo (sysOf mv full) 16 start) old
 unfolding writeOver
 written-plan mv full start old out r w = rw (w .is) (w .whole ∙ ap (λ (k : ℕ). w .plan ++ drop k old) (sym (w .long)))
 

@@ -18,7 +18,7 @@ use Rattle.search.specs.Moves.{count, gain, land, reached, goes, sysOf}
 use Rattle.search.specs.Settings.{lookUp, walkAt, order, choiceOf, loaded}
 use Rattle.search.specs.NetworkMoves.{onPath, allOf, MovesOf, decode, StepOf, Follows}
 use Rattle.search.specs.Choices.{placesOf, bitsFrom}
-use Rattle.search.proofs.Least.{firstOf-came}
+use Rattle.search.proofs.Least.{firstFrom-came}
 use Rattle.search.proofs.SettingNumbers.{setting-small}
 use Rattle.search.proofs.TargetMasks.{mask-small}
 use Rattle.search.proofs.NetworkMoves.{path-falls, bits-of, choice-length, targets-within}
@@ -73,7 +73,7 @@ module _ (net : Network) (a : Accepted net) (mv : List ℕ) (m : MovesOf net mv)
       by false f = absurd (none-some cs f)
   follows-in (suc n) x t cs lt small e =
       let d : (x * 16 + t) / 16 ≡ x = omega arith in
-      let r = firstOf-came (λ c. planIn M n (M .to (x * 16 + t) c)) 0 (count mv ((x * 16 + t) / 16)) cs e in
+      let r = firstFrom-came (λ c. planIn M n (M .to (x * 16 + t) c)) 0 (count mv ((x * 16 + t) / 16)) cs e in
       let less : r .choice < count mv x = omega (arith, r .within, ap (count mv) d) in
       let st = step-of x (r .choice) lt less in
       let g : gain mv x < 16 = omega (arith, m .rows x (st .route) lt (st .walks) .gain-is, mask-small (onPath (st .route)) (net .targets), targets-within net a) in

@@ -9,40 +9,40 @@ use native.Mathlib.Omega.{arith}
 use native.Mathlib.Decide.{decLe, decLt}
 use lib.Dec.{eqb}
 use borrow.Author.Tests.{eqb-true, eq-eqb, ne-eqb}
-use Rattle.model.specs.Planner.{orNext}
+use Rattle.model.specs.Planner.{orNext, startingWith}
 use Rattle.model.proofs.Lists.{none-some, some-same}
-use Rattle.search.specs.Search.{Sys, startingWith, firstOf, planIn, planFrom, planUpTo, anyAt, relax, goalMark, marks, FirstAt}
+use Rattle.search.specs.Search.{Sys, firstFrom, planIn, planFrom, planUpTo, anyAt, relax, goalMark, marks, FirstAt}
 
 some-none : {A : Type 0} {o : Option A} {a : A} → o ≡ some a → o ≡ none → ⊥
 some-none {a = a} e f = none-some a (sym f ∙ e)
 
 -- ---- the first choice from which the rest can be done
 
-firstOf-none : (go : ℕ → Option (List ℕ)) (i n : ℕ) → ((c : ℕ) → i ≤ c → c < i + n → go c ≡ none) → firstOf go i n ≡ none
-unfolding firstOf
-firstOf-none go i zero h = refl
-firstOf-none go i (suc n) h = rw (h i (omega arith) (omega arith)) (firstOf-none go (suc i) n (λ c a b. h c (omega arith) (omega arith)))
+firstFrom-none : (go : ℕ → Option (List ℕ)) (i n : ℕ) → ((c : ℕ) → i ≤ c → c < i + n → go c ≡ none) → firstFrom go i n ≡ none
+unfolding firstFrom
+firstFrom-none go i zero h = refl
+firstFrom-none go i (suc n) h = rw (h i (omega arith) (omega arith)) (firstFrom-none go (suc i) n (λ c a b. h c (omega arith) (omega arith)))
 
-firstOf-is : (go : ℕ → Option (List ℕ)) (i n r : ℕ) (q : List ℕ) → i ≤ r → r < i + n → ((c : ℕ) → i ≤ c → c < r → go c ≡ none) → go r ≡ some q
-    → firstOf go i n ≡ some (r ∷ q)
-unfolding firstOf
-firstOf-is go i zero r q a b before e = absurd (omega arith)
-firstOf-is go i (suc n) r q a b before e =
+firstFrom-is : (go : ℕ → Option (List ℕ)) (i n r : ℕ) (q : List ℕ) → i ≤ r → r < i + n → ((c : ℕ) → i ≤ c → c < r → go c ≡ none) → go r ≡ some q
+    → firstFrom go i n ≡ some (r ∷ q)
+unfolding firstFrom
+firstFrom-is go i zero r q a b before e = absurd (omega arith)
+firstFrom-is go i (suc n) r q a b before e =
     elim (decLt i r) [
-      | yes p ↦ rw (before i (omega arith) p) (firstOf-is go (suc i) n r q p (omega arith) (λ c x y. before c (omega arith) y) e)
+      | yes p ↦ rw (before i (omega arith) p) (firstFrom-is go (suc i) n r q p (omega arith) (λ c x y. before c (omega arith) y) e)
       | no p ↦ let z : r ≡ i = omega arith in rw (z, rw z at e)
     ]
 
-firstOf-some : (go : ℕ → Option (List ℕ)) (i n c : ℕ) (q : List ℕ) → i ≤ c → c < i + n → go c ≡ some q → (r : List ℕ) × (firstOf go i n ≡ some r)
-unfolding firstOf
-firstOf-some go i zero c q a b e = absurd (omega arith)
-firstOf-some go i (suc n) c q a b e =
+firstFrom-some : (go : ℕ → Option (List ℕ)) (i n c : ℕ) (q : List ℕ) → i ≤ c → c < i + n → go c ≡ some q → (r : List ℕ) × (firstFrom go i n ≡ some r)
+unfolding firstFrom
+firstFrom-some go i zero c q a b e = absurd (omega arith)
+firstFrom-some go i (suc n) c q a b e =
     elim (decLt i c) [
-      | yes p ↦ by (go i) (firstOf-some go (suc i) n c q p (omega arith) e)
+      | yes p ↦ by (go i) (firstFrom-some go (suc i) n c q p (omega arith) e)
       | no p ↦ let z : c ≡ i = omega arith in (i ∷ q, rw (rw z at e))
     ]
   where
-    by : (o : Option (List ℕ)) → ((r : List ℕ) × (firstOf go (suc i) n ≡ some r)) → (r : List ℕ) × (orNext (startingWith i o) (firstOf go (suc i) n) ≡ some r)
+    by : (o : Option (List ℕ)) → ((r : List ℕ) × (firstFrom go (suc i) n ≡ some r)) → (r : List ℕ) × (orNext (startingWith i o) (firstFrom go (suc i) n) ≡ some r)
     by none h = h
     by (some x) h = (i ∷ x, refl)
 
@@ -54,23 +54,23 @@ pub record Came (go : ℕ → Option (List ℕ)) (n : ℕ) (q : List ℕ) : Type
   pub found : go choice ≡ some rest
   pub whole : q ≡ choice ∷ rest
 
-pub firstOf-came : (go : ℕ → Option (List ℕ)) (i n : ℕ) (q : List ℕ) → firstOf go i n ≡ some q → Came go (i + n) q
-unfolding firstOf
-firstOf-came go i zero q e = absurd (none-some q e)
-firstOf-came go i (suc n) q e = by (go i) refl e (λ f. firstOf-came go (suc i) n q f)
+pub firstFrom-came : (go : ℕ → Option (List ℕ)) (i n : ℕ) (q : List ℕ) → firstFrom go i n ≡ some q → Came go (i + n) q
+unfolding firstFrom
+firstFrom-came go i zero q e = absurd (none-some q e)
+firstFrom-came go i (suc n) q e = by (go i) refl e (λ f. firstFrom-came go (suc i) n q f)
   where
-    by : (o : Option (List ℕ)) → go i ≡ o → orNext (startingWith i o) (firstOf go (suc i) n) ≡ some q → (firstOf go (suc i) n ≡ some q → Came go (suc i + n) q) → Came go (i + suc n) q
+    by : (o : Option (List ℕ)) → go i ≡ o → orNext (startingWith i o) (firstFrom go (suc i) n) ≡ some q → (firstFrom go (suc i) n ≡ some q → Came go (suc i + n) q) → Came go (i + suc n) q
     by none f g ih = let r = ih g in record { choice = r .choice; within = omega (arith, r .within); rest = r .rest; found = r .found; whole = r .whole }
     by (some x) f g ih = record { choice = i; within = omega arith; rest = x; found = f; whole = sym (some-same (i ∷ x) q g) }
 
 -- a plan from the state that a choice leads to is one longer from here
 planIn-step : (M : Sys) (n s c : ℕ) (q : List ℕ) → c < M .choices s → planIn M n (M .to s c) ≡ some q → (r : List ℕ) × (planIn M (suc n) s ≡ some r)
 unfolding planIn
-planIn-step M n s c q lt e = firstOf-some (λ x. planIn M n (M .to s x)) 0 (M .choices s) c q (omega arith) (omega arith) e
+planIn-step M n s c q lt e = firstFrom-some (λ x. planIn M n (M .to s x)) 0 (M .choices s) c q (omega arith) (omega arith) e
 
 planIn-none : (M : Sys) (n s : ℕ) → ((c : ℕ) → c < M .choices s → planIn M n (M .to s c) ≡ none) → planIn M (suc n) s ≡ none
 unfolding planIn
-planIn-none M n s h = firstOf-none (λ c. planIn M n (M .to s c)) 0 (M .choices s) (λ c a b. h c (omega arith))
+planIn-none M n s h = firstFrom-none (λ c. planIn M n (M .to s c)) 0 (M .choices s) (λ c a b. h c (omega arith))
 
 -- ---- what a mark d after round k says of a state
 
@@ -215,7 +215,7 @@ taken M k n s r e f =
             within = p;
             rest = v .plan;
             ahead = v .found;
-            whole = firstOf-is (λ c. planIn M n (M .to s c)) 0 (M .choices s) r (v .plan) (omega arith) (omega arith) (λ c a b. off c (omega arith) (f .before c b)) (v .found);
+            whole = firstFrom-is (λ c. planIn M n (M .to s c)) 0 (M .choices s) r (v .plan) (omega arith) (omega arith) (λ c a b. off c (omega arith) (f .before c b)) (v .found);
           }
     ]
   where

@@ -3,8 +3,7 @@
 use mathlib.Core.Path.{_≡_, refl, sym, ap, _∙_}
 use mathlib.Core.Bool.{Bool, true, false, cond, _&&_}
 use mathlib.Core.Option.{Option, none, some, Option·map}
-use mathlib.Core.Logic.{_⊎_, inl, inr}
-use mathlib.Core.List.{List, [], _∷_, _++_, map, List·Memᴰ, List·Memᴰ·append-cases, List·Memᴰ·not-nil}
+use mathlib.Core.List.{List, [], _∷_, _++_, map, List·Memᴰ, List·Memᴰ·not-nil}
 use Prim.Native.Nat.{ℕ, zero, suc, _≤_, _<_, _+_, _*_, _/_, _%_, _^_}
 use native.Mathlib.Nat.{one-le-pow}
 use native.Mathlib.Omega.{arith}
@@ -17,18 +16,16 @@ use Rattle.model.specs.Result.{Result, ok, refused}
 use Rattle.model.specs.Network.{Target, read, write, Config, Network, at, lenOf, steers, steeringBits}
 use Rattle.model.specs.NetworkText.{targetSegment}
 use Rattle.model.specs.Path.{ScanPath, Walk, path, stop, bitOf, walk, pathOf, on, share, loads, csu}
-use Rattle.model.specs.Plan.{Plan, OnSome, Done, fillOp}
+use Rattle.model.specs.Plan.{Plan, OnSome, Done}
 use Rattle.model.specs.Mark.{Got, targetsFrom}
 use Rattle.model.specs.Planner.{fillings, orNext, firstOf, startingWith, ifDone, ifValid, searchFrom, leastFrom, planFor}
 use Rattle.model.proofs.Accepted.{Accepted}
-use Rattle.model.proofs.Filling.{length-csu, owed-op}
+use Rattle.model.proofs.Filling.{length-csu}
 use Rattle.model.proofs.Lists.{true-false, at-mapFrom, not-ok}
 use Rattle.model.proofs.Search.{fill-out}
-use Rattle.model.proofs.SearchKey.{Kept}
+use Rattle.model.proofs.SearchKey.{Kept, kept-op}
 use Rattle.model.proofs.Validity.{targets-done, done-targets}
-use Rattle.model.proofs.Walking.{Falls}
-use Rattle.search.specs.Search as numbers
-use Rattle.search.specs.Search.{Sys, ifGoal, planIn, planFrom, planUpTo}
+use Rattle.search.specs.Search.{Sys, firstFrom, ifGoal, planIn, planFrom, planUpTo}
 use Rattle.search.specs.Moves.{count, gain, land, reached, goes, sysOf}
 use Rattle.search.specs.Settings.{settingOf, lookUp, numberOf, walkAt, order, choiceOf, loaded}
 use Rattle.search.specs.NetworkMoves.{maskOf, onPath, allOf, RowOf, MovesOf, decode}
@@ -43,16 +40,16 @@ use Rattle.search.proofs.NetworkMoves.{targets-within, path-falls, choi
 module _ (go : List Bool → Option Plan) (later : ℕ → Option (List ℕ)) (bits : ℕ → List Bool) (rest : ℕ → List ℕ → Plan) (dec : List ℕ → Plan)
     (dec-is : (c : ℕ) (cs : List ℕ) → dec (c ∷ cs) ≡ bits c ∷ rest c cs) where
   first-same : (l : List (List Bool)) (i : ℕ) → ((j : ℕ) → j < length l → getD l j [] ≡ bits (i + j)) → ((j : ℕ) → j < length l → go (bits (i + j)) ≡ Option·map (rest (i + j)) (later (i + j)))
-      → firstOf l go ≡ Option·map dec (numbers.firstOf later i (length l))
-  unfolding numbers.firstOf
+      → firstOf l go ≡ Option·map dec (firstFrom later i (length l))
+  unfolding firstFrom
   first-same [] i b e = refl
   first-same (bs ∷ l) i b e =
       by (later i) (let z : i + 0 ≡ i = omega arith in rw z at (e 0 (omega arith))) (let z : i + 0 ≡ i = omega arith in rw z at (b 0 (omega arith)))
       (first-same l (suc i) (λ j h. b (suc j) (omega arith) ∙ ap bits (let z : i + suc j ≡ suc i + j = omega arith in z))
       (λ j h. let z : i + suc j ≡ suc i + j = omega arith in rw z at (e (suc j) (omega arith))))
     where
-      by : (o : Option (List ℕ)) → go (bits i) ≡ Option·map (rest i) o → bs ≡ bits i → firstOf l go ≡ Option·map dec (numbers.firstOf later (suc i) (length l))
-          → orNext (startingWith bs (go bs)) (firstOf l go) ≡ Option·map dec (orNext (numbers.startingWith i o) (numbers.firstOf later (suc i) (length l)))
+      by : (o : Option (List ℕ)) → go (bits i) ≡ Option·map (rest i) o → bs ≡ bits i → firstOf l go ≡ Option·map dec (firstFrom later (suc i) (length l))
+          → orNext (startingWith bs (go bs)) (firstOf l go) ≡ Option·map dec (orNext (startingWith i o) (firstFrom later (suc i) (length l)))
       by none f z ih = rw (z, f) ih
       by (some cs) f z ih = rw (z, f) (ap some (sym (dec-is i cs)))
 
@@ -67,13 +64,6 @@ bit-after : (p : ScanPath) (bs : List Bool) (c : Config) (s b : ℕ) → 1 ≤ s
 unfolding csu
 bit-after p bs c s b l u =
     ap (λ (r : List Trit). getD r b none) (at-mapFrom (λ s old. cond (loads p s) (share p (map some bs) s) old) c s [] [] l u) ∙ cond-getD (on p s) (share p (map some bs) s) (at c s []) b
-
-side : (ps : List ScanPath) (p : ScanPath) (s : ℕ) → OnSome (ps ++ p ∷ []) s → OnSome ps s ⊎ OnSome (p ∷ []) s
-side ps p s x = by (List·Memᴰ·append-cases ps (x .1))
-  where
-    by : List·Memᴰ (x .0) ps ⊎ List·Memᴰ (x .0) (p ∷ []) → OnSome ps s ⊎ OnSome (p ∷ []) s
-    by (inl m) = inl (x .0, m, x .2)
-    by (inr m) = inr (x .0, m, x .2)
 
 module _ (net : Network) (a : Accepted net) where
   abbrev sb : List (ℕ × ℕ)
@@ -91,20 +81,6 @@ module _ (net : Network) (a : Accepted net) where
       setting-same sb (bitOf (csu p bs c)) (loaded p bs (lookUp sb (numberOf net c)))
       (λ q m. let r = steering-bit (net .nodes) q m in
       bit-after p bs c (q .0) (q .1) (r .least) (omega (arith, r .most)) ∙ ap (λ (v : Trit). cond (on p (q .0)) (getD (share p (map some bs) (q .0)) (q .1) none) v) (look-is c (q .0) (q .1) (r .steering)))
-
-  -- a write target that has been on a path holds its bits
-  kept-op : (ps : List ScanPath) (c : Config) (p : ScanPath) (bs : List Bool) → Falls (net .nodes) (suc (net .out)) p → length c ≡ length (net .nodes) → List·Memᴰ bs (fillings net p)
-      → Kept net ps c → Kept net (ps ++ p ∷ []) (csu p bs c)
-  kept-op ps c p bs falls size m k s w t x =
-      by (owed-op net (a .wf) (a .good) s w t p bs [] c falls (fill-out net p bs m .0) size (held (side ps p s x)))
-    where
-      held : OnSome ps s ⊎ OnSome (p ∷ []) s → OnSome (p ∷ []) s ⊎ (at c s [] ≡ map some w)
-      held (inl y) = inr (k s w t y)
-      held (inr y) = inl y
-
-      by : OnSome [] s ⊎ (at (csu p (fillOp net p bs) c) s [] ≡ map some w) → at (csu p bs c) s [] ≡ map some w
-      by (inl y) = absurd (List·Memᴰ·not-nil (y .1))
-      by (inr y) = ap (λ (z : List Bool). at (csu p z c) s []) (sym (fill-out net p bs m .1)) ∙ y
 
   -- ---- the goal
 
@@ -181,7 +157,7 @@ module _ (net : Network) (a : Accepted net) where
 
     same-search : (d : ℕ) (ps : List ScanPath) (c : Config) → length c ≡ length (net .nodes) → Kept net ps c
         → searchFrom net d ps c ≡ Option·map (decode net mv (numberOf net c)) (planIn M d (stateOf ps c))
-    unfolding searchFrom planIn numbers.firstOf
+    unfolding searchFrom planIn firstFrom
     same-search zero ps c size k = same-end ps c k
     same-search (suc d) ps c size k =
         rw (walk-is c, state-setting ps c) (by (walkAt net x) refl (λ p bs l g. same-search d (ps ++ p ∷ []) (csu p bs c) l g))
@@ -198,12 +174,12 @@ module _ (net : Network) (a : Accepted net) where
         by : (w : Walk) → walkAt net x ≡ w
             → ((p : ScanPath) (bs : List Bool) → length (csu p bs c) ≡ length (net .nodes) → Kept net (ps ++ p ∷ []) (csu p bs c)
             → next p bs ≡ Option·map (decode net mv (numberOf net (csu p bs c))) (planIn M d (stateOf (ps ++ p ∷ []) (csu p bs c))))
-            → ifValid w (λ p. firstOf (fillings net p) (next p)) ≡ Option·map (decode net mv x) (numbers.firstOf (λ j. planIn M d (to j)) 0 (count mv x))
+            → ifValid w (λ p. firstOf (fillings net p) (next p)) ≡ Option·map (decode net mv x) (firstFrom (λ j. planIn M d (to j)) 0 (count mv x))
         by (stop j) e ih = rw (m .stopped x j (setting-small sb (bitOf c)) e .0)
         by (path p) e ih =
             first-same (next p) (λ j. planIn M d (to j)) (choiceOf net p) (λ j. decode net mv (land mv x j)) (decode net mv x) (λ j cs. decode-step x p e j cs)
             (fillings net p) 0 (λ j h. ap (choiceOf net p) (let z : j ≡ 0 + j = omega arith in z)) (λ j h. one (0 + j) (omega arith))
-            ∙ ap (λ (n : ℕ). Option·map (decode net mv x) (numbers.firstOf (λ j. planIn M d (to j)) 0 n)) (choices-are x p small e)
+            ∙ ap (λ (n : ℕ). Option·map (decode net mv x) (firstFrom (λ j. planIn M d (to j)) 0 n)) (choices-are x p small e)
           where
             small : x < 3 ^ length sb
             small = setting-small sb (bitOf c)
@@ -211,10 +187,10 @@ module _ (net : Network) (a : Accepted net) where
             one : (j : ℕ) → j < length (fillings net p) → next p (choiceOf net p j) ≡ Option·map (decode net mv (land mv x j)) (planIn M d (to j))
             one j h =
                 let bs = choiceOf net p j in
-                let falls = path-falls net (a .wf) (lookUp sb x) p e in
                 let lt : j < count mv x = omega (arith, choices-are x p small e) in
                 let r = m .rows x p small e in
-                ih p bs (length-csu p bs c ∙ size) (kept-op ps c p bs falls size (getD-in (fillings net p) j [] h) k)
+                let filled = fill-out net p bs (getD-in (fillings net p) j [] h) in
+                ih p bs (length-csu p bs c ∙ size) (kept-op net (a .wf) (a .good) ps c p bs (walk-is c ∙ e) size (filled .0) (filled .1) k)
                 ∙ ap (λ (n : ℕ). Option·map (decode net mv n) (planIn M d (stateOf (ps ++ p ∷ []) (csu p bs c)))) (number-after c p bs size ∙ sym (r .lands-are j lt))
                 ∙ ap (λ (s : ℕ). Option·map (decode net mv (land mv x j)) (planIn M d s)) (state-after ps c p j size r lt)
 

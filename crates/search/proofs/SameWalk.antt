@@ -1,41 +1,19 @@
 -- The walk depends on the steering bits alone.
 -- Assumes nothing.
 use mathlib.Core.Path.{_≡_, refl, sym, ap, _∙_}
-use mathlib.Core.Bool.{Bool, true, false, cond, not}
+use mathlib.Core.Bool.{true}
 use mathlib.Core.Option.{Option, none, some}
-use mathlib.Core.List.{List, [], _∷_}
+use mathlib.Core.List.{List, []}
 use Prim.Native.Nat.{ℕ, zero, suc, _≤_, _<_}
-use native.Mathlib.Nat.{le-of-suc-le-suc, not-suc-le-zero}
 use native.Mathlib.Omega.{arith}
 use native.Mathlib.Decide.{decLt}
-use lib.Dec.{eqb, leb}
 use lib.ListN.{length, getD, List·getD-eq-default}
 use Rattle.model.specs.Network.{Node, segment, multiplexer, noNode, steersAt, steers}
-use Rattle.model.specs.Path.{Walk, valueOf, address, pick, onWay, enter, visit, walkFrom, nodeOf}
-use Rattle.model.proofs.Lists.{eqb-same, or-left, or-right, and-both}
+use Rattle.model.specs.Path.{Walk, address, pick, onWay, enter, visit, walkFrom, nodeOf}
+use Rattle.model.proofs.Filling.{steers-in, address-same}
 use Rattle.search.specs.Settings.{Look}
 
-steers-in : (ns : List Node) (n s b : ℕ) → n < length ns → steersAt (getD ns n noNode) s b ≡ true → steers ns s b ≡ true
-unfolding steers
-steers-in [] n s b l e = absurd (not-suc-le-zero l)
-steers-in (x ∷ ns) zero s b l e = or-left (steersAt x s b) (steers ns s b) e
-steers-in (x ∷ ns) (suc n) s b l e = or-right (steersAt x s b) (steers ns s b) (steers-in ns n s b (le-of-suc-le-suc l) e)
-
 module _ (look look′ : Look) where
-  address-same : (s b : ℕ) (ins : List ℕ) → ((i : ℕ) → steersAt (multiplexer s b ins) s i ≡ true → look s i ≡ look′ s i) → address look s b ins ≡ address look′ s b ins
-  address-same s b ins f = by (leb (length ins) 2) refl
-    where
-      first : look s b ≡ look′ s b
-      first = f b (and-both (eqb s s) _ (eqb-same s) (or-left (eqb b b) _ (eqb-same b)))
-
-      by : (t : Bool) → leb (length ins) 2 ≡ t
-          → cond t (valueOf (look s b) (some false)) (valueOf (look s b) (look s (suc b))) ≡ cond t (valueOf (look′ s b) (some false)) (valueOf (look′ s b) (look′ s (suc b)))
-      by true q = rw first
-      by false q =
-          let second : look s (suc b) ≡ look′ s (suc b) =
-          f (suc b) (and-both (eqb s s) _ (eqb-same s) (or-right (eqb b (suc b)) _ (and-both (not (leb (length ins) 2)) _ (ap not q) (eqb-same (suc b))))) in
-          rw (first, second)
-
   enter-same : (k : ℕ) (o : Option ℕ) (go go′ : ℕ → Walk) → ((m : ℕ) → go m ≡ go′ m) → enter k o go ≡ enter k o go′
   enter-same k none go go′ e = refl
   enter-same k (some m) go go′ e = e m
@@ -43,7 +21,7 @@ module _ (look look′ : Look) where
   visit-same : (k : ℕ) (nd : Node) (go go′ : ℕ → Walk) → ((s b : ℕ) → steersAt nd s b ≡ true → look s b ≡ look′ s b) → ((m : ℕ) → go m ≡ go′ m) → visit look k nd go ≡ visit look′ k nd go′
   visit-same k (segment from len sh) go go′ f e = ap (onWay record { number = k; len = len }) (e from)
   visit-same k (multiplexer s b ins) go go′ f e =
-      ap (λ (a : Option ℕ). enter k (pick ins a) go) (address-same s b ins (f s)) ∙ enter-same k (pick ins (address look′ s b ins)) go go′ e
+      ap (λ (a : Option ℕ). enter k (pick ins a) go) (address-same look look′ s b ins (f s)) ∙ enter-same k (pick ins (address look′ s b ins)) go go′ e
 
   -- a number that no node has stops every walk
   no-input : (o : Option ℕ) → pick [] o ≡ none

@@ -47,9 +47,9 @@ pub record Wrote (mv : List ℕ) (full start : ℕ) (old out : List ℕ) (r : �
   pub whole : out ≡ plan ++ drop r old
 
 -- the choices of a plan over the front of a buffer
-abbrev pub written : Option (List ℕ) → List ℕ → List ℕ
-written none old = old
-written (some cs) old = writeOver cs old
+abbrev pub withChoices : Option (List ℕ) → List ℕ → List ℕ
+withChoices none old = old
+withChoices (some cs) old = writeOver cs old
 
 -- what the search answers
 abbrev pub foundOf : Option (List ℕ) → Found

@@ -5,7 +5,7 @@ use mathlib.Core.Option.{Option, none, some}
 use mathlib.Core.List.{List, [], _∷_}
 use Prim.Native.Nat.{ℕ, zero, suc, _≤_, _<_}
 use lib.Dec.{eqb}
-use Rattle.model.specs.Planner.{orNext}
+use Rattle.model.specs.Planner.{orNext, startingWith}
 
 pub record Sys : Type 0 where
   -- the count of choices of a state
@@ -16,14 +16,10 @@ pub record Sys : Type 0 where
 
 -- ---- the plan: as `firstOf`, `searchFrom`, `leastFrom` and `planFor` of the model, by numbers
 
-abbrev pub startingWith : ℕ → Option (List ℕ) → Option (List ℕ)
-startingWith c none = none
-startingWith c (some cs) = some (c ∷ cs)
-
 -- the first of n choices, from number i on, from which the rest can be done
-unfoldable pub firstOf : (ℕ → Option (List ℕ)) → ℕ → ℕ → Option (List ℕ)
-firstOf go i zero = none
-firstOf go i (suc n) = let later = firstOf go (suc i) n in orNext (startingWith i (go i)) later
+unfoldable pub firstFrom : (ℕ → Option (List ℕ)) → ℕ → ℕ → Option (List ℕ)
+firstFrom go i zero = none
+firstFrom go i (suc n) = let later = firstFrom go (suc i) n in orNext (startingWith i (go i)) later
 
 abbrev pub ifGoal : Bool → Option (List ℕ)
 ifGoal true = some []
@@ -32,7 +28,7 @@ ifGoal false = none
 -- the first list of exactly n choices from state s to a goal
 unfoldable pub planIn : Sys → ℕ → ℕ → Option (List ℕ)
 planIn M zero s = ifGoal (M .goal s)
-planIn M (suc n) s = firstOf (λ c. planIn M n (M .to s c)) 0 (M .choices s)
+planIn M (suc n) s = firstFrom (λ c. planIn M n (M .to s c)) 0 (M .choices s)
 
 -- the least number of choices, from d on, at most n more
 unfoldable pub planFrom : Sys → ℕ → ℕ → ℕ → Option (List ℕ)

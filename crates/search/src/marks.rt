@@ -6,7 +6,7 @@ ghost use lib.ListN.{length, getD, replicate};
 ghost use Rattle.model.specs.Calls.{writeOver, searchEntries};
 ghost use Rattle.search.specs.Search.{planUpTo, marks, FirstAt};
 ghost use Rattle.search.specs.Moves.{MoveTable, count, goes, sysOf};
-ghost use Rattle.search.specs.Marks.{relaxed, Part, Beyond, Marking, Settled, Wrote, written, foundOf};
+ghost use Rattle.search.specs.Marks.{relaxed, Part, Beyond, Marking, Settled, Wrote, withChoices, foundOf};
 use crate::moves::choices;
 use crate::moves::gained;
 use crate::moves::leads_to;
@@ -224,7 +224,7 @@ pub fn find_plan(
     requires { ⌜ 11664 ≤ length (now table) ⌝ }
     requires { ⌜ 16 ≤ length (now out) ⌝ }
     ensures { λ r. ⌜ r ≡ foundOf (planUpTo (sysOf (now (moves .entry)) full) 16 start) ⌝ }
-    ensures { λ _. ⌜ now (out .exit) ≡ written (planUpTo (sysOf (now (moves .entry)) full) 16 start) (now (out .entry)) ⌝ }
+    ensures { λ _. ⌜ now (out .exit) ≡ withChoices (planUpTo (sysOf (now (moves .entry)) full) 16 start) (now (out .entry)) ⌝ }
     ensures { λ _. ⌜ now (table .exit) ≡ writeOver (replicate searchEntries 0) (now (table .entry)) ⌝ }
 {
     fill(table, moves, full, start);

@@ -5,7 +5,7 @@ use Prim.Native.Nat.{ℕ}
 use lib.ListN.{replicate, length-replicate}
 use Rattle.plan_text.proofs.Forms.{form-good, form-refused}
 use Rattle.marker.specs.Marks.{markOf}
-use Rattle.marker.proofs.Records.{reading-rejected, reading-recorded}
+use Rattle.network.proofs.Records.{reading-rejected, reading-recorded}
 use Rattle.marker.proofs.Noting.{reached-none}
 use Rattle.marker.proofs.Verdicts.{network-refused, plan-refused, rows-refused, starts, run-refused, judgeable, judged}
 use Rattle.network.proofs.Lines.{zero-at}

@@ -1,7 +1,7 @@
 use Rattle.network.proofs.BadAddresses.{node-in}
-use Rattle.network.proofs.AddingTargets.{target-4, target-6, target-rest, follows-rest}
+use Rattle.network.proofs.AddingTargets.{target-4, target-6, target-rest, agrees-same}
 use Rattle.network.proofs.AddingHolds.{no-bits, with-bits, unfit-none, unfit-length, fit, bits-in-length, bits-are}
-use Rattle.network.proofs.Drawing.{follows-refused, drawn-out, drawn-len}
+use Rattle.network.proofs.Drawing.{agrees-refused, drawn-out, drawn-len}
 use Rattle.model.specs.Network.{read, write, lenOf}
 use mathlib.Core.List.{[]}
 use Rattle.model.proofs.Lists.{true-false}
@@ -23,7 +23,7 @@ refuse-requires c κs = search needs
 
 -- src/add.rt:191:9
 returns : tie.Need-returns
-returns c = λ bits known held d w. follows-refused _ _ _ 4 (c .before .before .before .args .n) (target-4 d (c .before .before .before .args .n) (read (c .before .before .before .args .s)) (drawn-out (c .before .before .before .args .nodes .now) bits known (c .before .before .before .args .steering .now) held (c .before .before .before .args .t) d (c .before .before .before .args .n) w ∙ not-true _ (c .before .if1 .taken))) (c .refuse .ensures)
+returns c = λ bits known held d w. agrees-refused _ _ _ 4 (c .before .before .before .args .n) (target-4 d (c .before .before .before .args .n) (read (c .before .before .before .args .s)) (drawn-out (c .before .before .before .args .nodes .now) bits known (c .before .before .before .args .steering .now) held (c .before .before .before .args .t) d (c .before .before .before .args .n) w ∙ not-true _ (c .before .if1 .taken))) (c .refuse .ensures)
 
 -- src/add.rt:193:9
 len-of-requires : tie.Need-len-of-requires
@@ -35,7 +35,7 @@ refuse-requires-2 c κs = search needs
 
 -- src/add.rt:195:9
 returns-2 : tie.Need-returns-2
-returns-2 c = λ bits known held d w. follows-refused _ _ _ 6 (c .before .before .before .before .before .args .n) (target-6 d (c .before .before .before .before .before .args .n) (read (c .before .before .before .before .before .args .s)) (drawn-out (c .before .before .before .before .before .args .nodes .now) bits known (c .before .before .before .before .before .args .steering .now) held (c .before .before .before .before .before .args .t) d (c .before .before .before .before .before .args .n) w ∙ not-false _ (c .before .before .before .if1 .left)) (no-bits (c .before .before .before .before .before .args .nodes .now) bits known (c .before .before .before .before .before .args .steering .now) held (c .before .before .before .before .before .args .t) d (c .before .before .before .before .before .args .n) w (c .before .before .before .before .before .args .s) ((drawn-len (c .before .before .before .before .before .args .nodes .now) bits known (c .before .before .before .before .before .args .steering .now) held (c .before .before .before .before .before .args .t) d (c .before .before .before .before .before .args .n) w (c .before .before .len-of .result) (c .before .before .before .before .before .args .s) (c .before .before .len-of .ensures .0)) ∙ c .before .if2 .taken))) (c .refuse2 .ensures)
+returns-2 c = λ bits known held d w. agrees-refused _ _ _ 6 (c .before .before .before .before .before .args .n) (target-6 d (c .before .before .before .before .before .args .n) (read (c .before .before .before .before .before .args .s)) (drawn-out (c .before .before .before .before .before .args .nodes .now) bits known (c .before .before .before .before .before .args .steering .now) held (c .before .before .before .before .before .args .t) d (c .before .before .before .before .before .args .n) w ∙ not-false _ (c .before .before .before .if1 .left)) (no-bits (c .before .before .before .before .before .args .nodes .now) bits known (c .before .before .before .before .before .args .steering .now) held (c .before .before .before .before .before .args .t) d (c .before .before .before .before .before .args .n) w (c .before .before .before .before .before .args .s) ((drawn-len (c .before .before .before .before .before .args .nodes .now) bits known (c .before .before .before .before .before .args .steering .now) held (c .before .before .before .before .before .args .t) d (c .before .before .before .before .before .args .n) w (c .before .before .len-of .result) (c .before .before .before .before .before .args .s) (c .before .before .len-of .ensures .0)) ∙ c .before .if2 .taken))) (c .refuse2 .ensures)
 
 -- src/add.rt:197:5
 add-target-requires : tie.Need-add-target-requires
@@ -43,7 +43,7 @@ add-target-requires c κs = let r = c .before .len-of .ensures .1 (let ne = c .i
 
 -- src/add.rt:186:1
 returns-3 : tie.Need-returns-3
-returns-3 c = λ bits known held d w. let fits = with-bits (c .before .before .before .before .before .args .nodes .now) bits known (c .before .before .before .before .before .args .steering .now) held (c .before .before .before .before .before .args .t) d (c .before .before .before .before .before .args .n) w (c .before .before .before .before .before .args .s) (λ z. c .before .if2 .left (sym (drawn-len (c .before .before .before .before .before .args .nodes .now) bits known (c .before .before .before .before .before .args .steering .now) held (c .before .before .before .before .before .args .t) d (c .before .before .before .before .before .args .n) w (c .before .before .len-of .result) (c .before .before .before .before .before .args .s) (c .before .before .len-of .ensures .0)) ∙ z)) in follows-rest _ _ _ _ (target-rest d (c .before .before .before .before .before .args .n) (read (c .before .before .before .before .before .args .s)) (drawn-out (c .before .before .before .before .before .args .nodes .now) bits known (c .before .before .before .before .before .args .steering .now) held (c .before .before .before .before .before .args .t) d (c .before .before .before .before .before .args .n) w ∙ not-false _ (c .before .before .before .if1 .left)) fits) (c .add-target .ensures (c .before .before .before .before .before .args .nodes .now) bits known held [] d (drawn-out (c .before .before .before .before .before .args .nodes .now) bits known (c .before .before .before .before .before .args .steering .now) held (c .before .before .before .before .before .args .t) d (c .before .before .before .before .before .args .n) w ∙ not-false _ (c .before .before .before .if1 .left)) fits (λ z. absurd (true-false (sym z))) w)
+returns-3 c = λ bits known held d w. let fits = with-bits (c .before .before .before .before .before .args .nodes .now) bits known (c .before .before .before .before .before .args .steering .now) held (c .before .before .before .before .before .args .t) d (c .before .before .before .before .before .args .n) w (c .before .before .before .before .before .args .s) (λ z. c .before .if2 .left (sym (drawn-len (c .before .before .before .before .before .args .nodes .now) bits known (c .before .before .before .before .before .args .steering .now) held (c .before .before .before .before .before .args .t) d (c .before .before .before .before .before .args .n) w (c .before .before .len-of .result) (c .before .before .before .before .before .args .s) (c .before .before .len-of .ensures .0)) ∙ z)) in agrees-same _ _ _ _ (target-rest d (c .before .before .before .before .before .args .n) (read (c .before .before .before .before .before .args .s)) (drawn-out (c .before .before .before .before .before .args .nodes .now) bits known (c .before .before .before .before .before .args .steering .now) held (c .before .before .before .before .before .args .t) d (c .before .before .before .before .before .args .n) w ∙ not-false _ (c .before .before .before .if1 .left)) fits) (c .add-target .ensures (c .before .before .before .before .before .args .nodes .now) bits known held [] d (drawn-out (c .before .before .before .before .before .args .nodes .now) bits known (c .before .before .before .before .before .args .steering .now) held (c .before .before .before .before .before .args .t) d (c .before .before .before .before .before .args .n) w ∙ not-false _ (c .before .before .before .if1 .left)) fits (λ z. absurd (true-false (sym z))) w)
 
 pub add-read-spec : {M : Type 1} → statement M
 add-read-spec =

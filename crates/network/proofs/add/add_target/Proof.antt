@@ -4,7 +4,7 @@ use Rattle.model.specs.Network.{Target, isSteering}
 use native.Mathlib.Omega.{arith}
 use mathlib.Core.List.{List}
 use mathlib.Core.Path.{refl, sym, ap, _∙_}
-use Rattle.network.proofs.Drawing.{follows-refused, follows-ok, drawn-targets}
+use Rattle.network.proofs.Drawing.{agrees-refused, agrees-ok, drawn-targets}
 use Rattle.network.proofs.AddingTargets.{again-6, target-7, target-8, target-added, target-rest, segment-of, is-steering, not-steering, with-target}
 use borrow.Author.Needs.{needs}
 use Rattle.network.proofs.add.add_target.Statement.{statement}
@@ -26,7 +26,7 @@ refuse-requires c κs = search needs
 
 -- src/add.rt:168:9
 returns : tie.Need-returns
-returns c = λ ns bits known held bs d out fits is-word w. follows-refused _ _ _ 6 (c .before .before .before .args .n) (again-6 d (c .before .before .before .args .n) (targetFor (c .before .before .before .args .write) (c .before .before .before .args .s) bs) (sym (ap (λ (ts : List Target). isTarget ts (targetFor (c .before .before .before .args .write) (c .before .before .before .args .s) bs)) (w .targets-are)) ∙ sym (c .before .before .has-target .ensures ns bs) ∙ c .before .if1 .taken)) (c .refuse .ensures)
+returns c = λ ns bits known held bs d out fits is-word w. agrees-refused _ _ _ 6 (c .before .before .before .args .n) (again-6 d (c .before .before .before .args .n) (targetFor (c .before .before .before .args .write) (c .before .before .before .args .s) bs) (sym (ap (λ (ts : List Target). isTarget ts (targetFor (c .before .before .before .args .write) (c .before .before .before .args .s) bs)) (w .targets-are)) ∙ sym (c .before .before .has-target .ensures ns bs) ∙ c .before .if1 .taken)) (c .refuse .ensures)
 
 -- src/add.rt:170:8
 mul-if2 : tie.Need-mul-if2
@@ -42,7 +42,7 @@ refuse-requires-2 c κs = search needs
 
 -- src/add.rt:171:9
 returns-2 : tie.Need-returns-2
-returns-2 c = λ ns bits known held bs d out fits is-word w. follows-refused _ _ _ 7 (c .before .before .before .before .before .args .n) (target-7 d (c .before .before .before .before .before .args .n) (targetFor (c .before .before .before .before .before .args .write) (c .before .before .before .before .before .args .s) bs) (sym (ap (λ (ts : List Target). isTarget ts (targetFor (c .before .before .before .before .before .args .write) (c .before .before .before .before .before .args .s) bs)) (w .targets-are)) ∙ sym (c .before .before .before .before .has-target .ensures ns bs) ∙ c .before .before .before .if1 .left) (ap (isSteering (d .nodes)) (segment-of (c .before .before .before .before .before .args .write) (c .before .before .before .before .before .args .s) bs) ∙ is-steering ns bits known (c .before .before .before .before .before .args .steering .now) held (c .before .before .before .before .before .args .t) d (c .before .before .before .before .before .args .n) w out (c .before .before .before .before .before .args .s) (c .before .before .before .before .before .pre .1) (c .before .if2 .taken))) (c .refuse2 .ensures)
+returns-2 c = λ ns bits known held bs d out fits is-word w. agrees-refused _ _ _ 7 (c .before .before .before .before .before .args .n) (target-7 d (c .before .before .before .before .before .args .n) (targetFor (c .before .before .before .before .before .args .write) (c .before .before .before .before .before .args .s) bs) (sym (ap (λ (ts : List Target). isTarget ts (targetFor (c .before .before .before .before .before .args .write) (c .before .before .before .before .before .args .s) bs)) (w .targets-are)) ∙ sym (c .before .before .before .before .has-target .ensures ns bs) ∙ c .before .before .before .if1 .left) (ap (isSteering (d .nodes)) (segment-of (c .before .before .before .before .before .args .write) (c .before .before .before .before .before .args .s) bs) ∙ is-steering ns bits known (c .before .before .before .before .before .args .steering .now) held (c .before .before .before .before .before .args .t) d (c .before .before .before .before .before .args .n) w out (c .before .before .before .before .before .args .s) (c .before .before .before .before .before .pre .1) (c .before .if2 .taken))) (c .refuse2 .ensures)
 
 -- src/add.rt:175:9
 refuse-requires-3 : tie.Need-refuse-requires-3
@@ -50,7 +50,7 @@ refuse-requires-3 c κs = search needs
 
 -- src/add.rt:175:9
 returns-3 : tie.Need-returns-3
-returns-3 c = λ ns bits known held bs d out fits is-word w. follows-refused _ _ _ 8 (c .before .before .before .before .before .before .args .n) (target-8 d (c .before .before .before .before .before .before .args .n) (targetFor (c .before .before .before .before .before .before .args .write) (c .before .before .before .before .before .before .args .s) bs) (sym (ap (λ (ts : List Target). isTarget ts (targetFor (c .before .before .before .before .before .before .args .write) (c .before .before .before .before .before .before .args .s) bs)) (w .targets-are)) ∙ sym (c .before .before .before .before .before .has-target .ensures ns bs) ∙ c .before .before .before .before .if1 .left) ((ap (isSteering (d .nodes)) (segment-of (c .before .before .before .before .before .before .args .write) (c .before .before .before .before .before .before .args .s) bs) ∙ not-steering ns bits known (c .before .before .before .before .before .before .args .steering .now) held (c .before .before .before .before .before .before .args .t) d (c .before .before .before .before .before .before .args .n) w out (c .before .before .before .before .before .before .args .s) (c .before .before .before .before .before .before .pre .1) (c .before .before .if2 .left))) (omega (arith, drawn-targets ns bits known (c .before .before .before .before .before .before .args .steering .now) held (c .before .before .before .before .before .before .args .t) d (c .before .before .before .before .before .before .args .n) w, c .before .if3 .taken))) (c .refuse3 .ensures)
+returns-3 c = λ ns bits known held bs d out fits is-word w. agrees-refused _ _ _ 8 (c .before .before .before .before .before .before .args .n) (target-8 d (c .before .before .before .before .before .before .args .n) (targetFor (c .before .before .before .before .before .before .args .write) (c .before .before .before .before .before .before .args .s) bs) (sym (ap (λ (ts : List Target). isTarget ts (targetFor (c .before .before .before .before .before .before .args .write) (c .before .before .before .before .before .before .args .s) bs)) (w .targets-are)) ∙ sym (c .before .before .before .before .before .has-target .ensures ns bs) ∙ c .before .before .before .before .if1 .left) ((ap (isSteering (d .nodes)) (segment-of (c .before .before .before .before .before .before .args .write) (c .before .before .before .before .before .before .args .s) bs) ∙ not-steering ns bits known (c .before .before .before .before .before .before .args .steering .now) held (c .before .before .before .before .before .before .args .t) d (c .before .before .before .before .before .before .args .n) w out (c .before .before .before .before .before .before .args .s) (c .before .before .before .before .before .before .pre .1) (c .before .before .if2 .left))) (omega (arith, drawn-targets ns bits known (c .before .before .before .before .before .before .args .steering .now) held (c .before .before .before .before .before .before .args .t) d (c .before .before .before .before .before .before .args .n) w, c .before .if3 .taken))) (c .refuse3 .ensures)
 
 -- src/add.rt:178:31
 narrow-requires : tie.Need-narrow-requires
@@ -90,7 +90,7 @@ add-next c = search needs
 
 -- src/add.rt:163:1
 returns-4 : tie.Need-returns-4
-returns-4 c = λ ns bits known held bs d out fits is-word w. let is = target-added d (c .before .before .before .before .before .before .before .args .n) (targetFor (c .before .before .before .before .before .before .before .args .write) (c .before .before .before .before .before .before .before .args .s) bs) (sym (ap (λ (ts : List Target). isTarget ts (targetFor (c .before .before .before .before .before .before .before .args .write) (c .before .before .before .before .before .before .before .args .s) bs)) (w .targets-are)) ∙ sym (c .before .before .before .before .before .before .has-target .ensures ns bs) ∙ c .before .before .before .before .before .if1 .left) ((ap (isSteering (d .nodes)) (segment-of (c .before .before .before .before .before .before .before .args .write) (c .before .before .before .before .before .before .before .args .s) bs) ∙ not-steering ns bits known (c .before .before .before .before .before .before .before .args .steering .now) held (c .before .before .before .before .before .before .before .args .t) d (c .before .before .before .before .before .before .before .args .n) w out (c .before .before .before .before .before .before .before .args .s) (c .before .before .before .before .before .before .before .pre .1) (c .before .before .before .if2 .left))) (omega (arith, drawn-targets ns bits known (c .before .before .before .before .before .before .before .args .steering .now) held (c .before .before .before .before .before .before .before .args .t) d (c .before .before .before .before .before .before .before .args .n) w, c .before .before .if3 .left)) in follows-ok _ _ _ (withTarget d (targetFor (c .before .before .before .before .before .before .before .args .write) (c .before .before .before .before .before .before .before .args .s) bs)) is refl (rw (c .flag-of .ensures, c .before .narrow .ensures) (with-target ns bits known (c .before .before .before .before .before .before .before .args .steering .now) held (c .before .before .before .before .before .before .before .args .t) d (c .before .before .before .before .before .before .before .args .n) w (c .before .before .before .before .before .before .before .args .s) (c .before .before .before .before .before .before .before .args .write) (c .before .before .before .before .before .before .before .args .bits) bs is-word (c .before .before .if3 .left) (target-rest d (c .before .before .before .before .before .before .before .args .n) (targetFor (c .before .before .before .before .before .before .before .args .write) (c .before .before .before .before .before .before .before .args .s) bs) out fits ∙ is)))
+returns-4 c = λ ns bits known held bs d out fits is-word w. let is = target-added d (c .before .before .before .before .before .before .before .args .n) (targetFor (c .before .before .before .before .before .before .before .args .write) (c .before .before .before .before .before .before .before .args .s) bs) (sym (ap (λ (ts : List Target). isTarget ts (targetFor (c .before .before .before .before .before .before .before .args .write) (c .before .before .before .before .before .before .before .args .s) bs)) (w .targets-are)) ∙ sym (c .before .before .before .before .before .before .has-target .ensures ns bs) ∙ c .before .before .before .before .before .if1 .left) ((ap (isSteering (d .nodes)) (segment-of (c .before .before .before .before .before .before .before .args .write) (c .before .before .before .before .before .before .before .args .s) bs) ∙ not-steering ns bits known (c .before .before .before .before .before .before .before .args .steering .now) held (c .before .before .before .before .before .before .before .args .t) d (c .before .before .before .before .before .before .before .args .n) w out (c .before .before .before .before .before .before .before .args .s) (c .before .before .before .before .before .before .before .pre .1) (c .before .before .before .if2 .left))) (omega (arith, drawn-targets ns bits known (c .before .before .before .before .before .before .before .args .steering .now) held (c .before .before .before .before .before .before .before .args .t) d (c .before .before .before .before .before .before .before .args .n) w, c .before .before .if3 .left)) in agrees-ok _ _ _ (withTarget d (targetFor (c .before .before .before .before .before .before .before .args .write) (c .before .before .before .before .before .before .before .args .s) bs)) is refl (rw (c .flag-of .ensures, c .before .narrow .ensures) (with-target ns bits known (c .before .before .before .before .before .before .before .args .steering .now) held (c .before .before .before .before .before .before .before .args .t) d (c .before .before .before .before .before .before .before .args .n) w (c .before .before .before .before .before .before .before .args .s) (c .before .before .before .before .before .before .before .args .write) (c .before .before .before .before .before .before .before .args .bits) bs is-word (c .before .before .if3 .left) (target-rest d (c .before .before .before .before .before .before .before .args .n) (targetFor (c .before .before .before .before .before .before .before .args .write) (c .before .before .before .before .before .before .before .args .s) bs) out fits ∙ is)))
 
 pub add-target-spec : {M : Type 1} → statement M
 add-target-spec =

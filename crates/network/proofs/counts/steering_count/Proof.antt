@@ -1,5 +1,6 @@
 use lib.ListN.{getD}
 use Rattle.network.proofs.Counting.{sum-start, sum-step, sum-end}
+use Rattle.path.specs.Layout.{wordWidth}
 use Rattle.network.specs.Draws.{Short}
 use Rattle.network.specs.Counts.{countIn, countFrom}
 use borrow.Author.Needs.{needs}
@@ -15,7 +16,7 @@ use Rattle.path.proofs.layout.segment_len.Reads as segment-len-reads
 
 abbrev Inv-loop : tie.InvT-loop
 Inv-loop nodes steering count sum₀ s₀ sum s =
-    (1 ≤ s) × (s ≤ count + 1) × (count ≤ 128) × (sum + 32 ≤ 32 * s) × (sum + countFrom nodes steering s (count + 1 - s) ≡ countFrom nodes steering 1 count) × Short nodes count
+    (1 ≤ s) × (s ≤ count + 1) × (count ≤ 128) × (sum + wordWidth ≤ wordWidth * s) × (sum + countFrom nodes steering s (count + 1 - s) ≡ countFrom nodes steering 1 count) × Short nodes count
 
 abbrev μ-loop : tie.MeasureT-loop
 μ-loop nodes steering count sum₀ s₀ sum s = count + 1 - s

@@ -1,4 +1,4 @@
-use Rattle.path.specs.Layout.{wordBit}
+use Rattle.path.specs.Layout.{wordWidth, wordBit}
 use Rattle.network.proofs.Counting.{value-most, count-start, count-step, count-end}
 use Rattle.network.specs.Counts.{countIn}
 use borrow.Author.Needs.{needs}
@@ -12,7 +12,7 @@ use Rattle.network.proofs.counts.steering_in.Lts as lts
 use Rattle.path.proofs.words.bit_at.Reads as bit-at-reads
 
 abbrev Inv-loop : tie.InvT-loop
-Inv-loop word len sum₀ b₀ sum b = (b ≤ len) × (len ≤ 32) × (sum ≤ b) × (sum + countIn word b (len - b) ≡ countIn word 0 len)
+Inv-loop word len sum₀ b₀ sum b = (b ≤ len) × (len ≤ wordWidth) × (sum ≤ b) × (sum + countIn word b (len - b) ≡ countIn word 0 len)
 
 abbrev μ-loop : tie.MeasureT-loop
 μ-loop word len sum₀ b₀ sum b = len - b

@@ -1,6 +1,6 @@
 use Rattle.network.proofs.ReadingLines.{line-is, entry-good}
-use Rattle.network.proofs.AddingTargets.{follows-rest}
-use Rattle.network.proofs.Drawing.{follows-refused, drawn-formed, drawn-words}
+use Rattle.network.proofs.AddingTargets.{agrees-same}
+use Rattle.network.proofs.Drawing.{agrees-refused, drawn-formed, drawn-words}
 use Rattle.model.specs.NetworkText.{addLine}
 use native.Mathlib.Omega.{arith}
 use mathlib.Core.Path.{refl, sym, ap, _∙_}
@@ -99,27 +99,27 @@ add-read-requires c κs = search needs
 
 -- src/reader.rt:49:1
 returns : tie.Need-returns
-returns c = λ d w. follows-refused _ _ _ 1 (c .before .before .before .before .before .args .n) (ap (addLine d (c .before .before .before .before .before .args .n)) (line-is (c .before .before .before .before .before .args .line .now) (c .before .before .before .parse .result) (c .before .before .before .parse .ensures) _ (c .before .enum-told .given .1))) (c .answer .ensures .0)
+returns c = λ d w. agrees-refused _ _ _ 1 (c .before .before .before .before .before .args .n) (ap (addLine d (c .before .before .before .before .before .args .n)) (line-is (c .before .before .before .before .before .args .line .now) (c .before .before .before .parse .result) (c .before .before .before .parse .ensures) _ (c .before .enum-told .given .1))) (c .answer .ensures .0)
 
 -- src/reader.rt:49:1
 returns-2 : tie.Need-returns-2
-returns-2 c = λ d w. follows-rest _ _ _ _ (ap (addLine d (c .before .before .before .before .before .before .before .before .args .n)) (line-is (c .before .before .before .before .before .before .before .before .args .line .now) (c .before .before .before .before .before .before .parse .result) (c .before .before .before .before .before .before .parse .ensures) _ (c .before .before .before .before .entry .given .1))) (c .add-node .ensures (c .before .before .before .before .before .before .before .before .args .bits .now) (c .before .before .before .before .before .before .before .before .args .known .now) (c .before .before .before .before .before .before .before .before .args .held .now) d w)
+returns-2 c = λ d w. agrees-same _ _ _ _ (ap (addLine d (c .before .before .before .before .before .before .before .before .args .n)) (line-is (c .before .before .before .before .before .before .before .before .args .line .now) (c .before .before .before .before .before .before .parse .result) (c .before .before .before .before .before .before .parse .ensures) _ (c .before .before .before .before .entry .given .1))) (c .add-node .ensures (c .before .before .before .before .before .before .before .before .args .bits .now) (c .before .before .before .before .before .before .before .before .args .known .now) (c .before .before .before .before .before .before .before .before .args .held .now) d w)
 
 -- src/reader.rt:49:1
 returns-3 : tie.Need-returns-3
-returns-3 c = λ d w. follows-rest _ _ _ _ (ap (addLine d (c .before .before .before .before .before .before .before .args .n)) (line-is (c .before .before .before .before .before .before .before .args .line .now) (c .before .before .before .before .before .parse .result) (c .before .before .before .before .before .parse .ensures) _ (c .before .before .before .entry2 .given .1))) (c .add-out .ensures (c .before .before .before .before .before .before .before .args .bits .now) (c .before .before .before .before .before .before .before .args .known .now) (c .before .before .before .before .before .before .before .args .steering .now) (c .before .before .before .before .before .before .before .args .held .now) d w)
+returns-3 c = λ d w. agrees-same _ _ _ _ (ap (addLine d (c .before .before .before .before .before .before .before .args .n)) (line-is (c .before .before .before .before .before .before .before .args .line .now) (c .before .before .before .before .before .parse .result) (c .before .before .before .before .before .parse .ensures) _ (c .before .before .before .entry2 .given .1))) (c .add-out .ensures (c .before .before .before .before .before .before .before .args .bits .now) (c .before .before .before .before .before .before .before .args .known .now) (c .before .before .before .before .before .before .before .args .steering .now) (c .before .before .before .before .before .before .before .args .held .now) d w)
 
 -- src/reader.rt:49:1
 returns-4 : tie.Need-returns-4
-returns-4 c = λ d w. rw (c .answer2 .ensures .0, c .answer2 .ensures .1) (follows-rest _ _ _ _ (ap (addLine d (c .before .before .before .before .before .before .before .before .before .before .before .before .args .n)) (line-is (c .before .before .before .before .before .before .before .before .before .before .before .before .args .line .now) (c .before .before .before .before .before .before .before .before .before .before .parse .result) (c .before .before .before .before .before .before .before .before .before .before .parse .ensures) _ (c .before .before .before .before .before .before .before .before .entry3 .given .1))) (c .before .add-hold .ensures (c .before .before .before .before .before .before .before .before .before .before .before .before .args .steering .now) d ((entry-good (c .before .before .before .before .before .before .before .before .before .before .before .before .args .line .now) (c .before .before .before .before .before .before .before .before .before .before .parse .result) (c .before .before .before .before .before .before .before .before .before .before .parse .ensures) _ (c .before .before .before .before .before .before .before .before .entry3 .given .1)) .1) w))
+returns-4 c = λ d w. rw (c .answer2 .ensures .0, c .answer2 .ensures .1) (agrees-same _ _ _ _ (ap (addLine d (c .before .before .before .before .before .before .before .before .before .before .before .before .args .n)) (line-is (c .before .before .before .before .before .before .before .before .before .before .before .before .args .line .now) (c .before .before .before .before .before .before .before .before .before .before .parse .result) (c .before .before .before .before .before .before .before .before .before .before .parse .ensures) _ (c .before .before .before .before .before .before .before .before .entry3 .given .1))) (c .before .add-hold .ensures (c .before .before .before .before .before .before .before .before .before .before .before .before .args .steering .now) d ((entry-good (c .before .before .before .before .before .before .before .before .before .before .before .before .args .line .now) (c .before .before .before .before .before .before .before .before .before .before .parse .result) (c .before .before .before .before .before .before .before .before .before .before .parse .ensures) _ (c .before .before .before .before .before .before .before .before .entry3 .given .1)) .1) w))
 
 -- src/reader.rt:49:1
 returns-5 : tie.Need-returns-5
-returns-5 c = λ d w. follows-rest _ _ _ _ (ap (addLine d (c .before .before .before .before .before .before .before .before .before .args .n)) (line-is (c .before .before .before .before .before .before .before .before .before .args .line .now) (c .before .before .before .before .before .before .before .parse .result) (c .before .before .before .before .before .before .before .parse .ensures) _ (c .before .before .before .before .before .entry4 .given .1))) (c .add-write .ensures (c .before .before .before .before .before .before .before .before .before .args .bits .now) (c .before .before .before .before .before .before .before .before .before .args .known .now) (c .before .before .before .before .before .before .before .before .before .args .held .now) d ((entry-good (c .before .before .before .before .before .before .before .before .before .args .line .now) (c .before .before .before .before .before .before .before .parse .result) (c .before .before .before .before .before .before .before .parse .ensures) _ (c .before .before .before .before .before .entry4 .given .1)) .1) w)
+returns-5 c = λ d w. agrees-same _ _ _ _ (ap (addLine d (c .before .before .before .before .before .before .before .before .before .args .n)) (line-is (c .before .before .before .before .before .before .before .before .before .args .line .now) (c .before .before .before .before .before .before .before .parse .result) (c .before .before .before .before .before .before .before .parse .ensures) _ (c .before .before .before .before .before .entry4 .given .1))) (c .add-write .ensures (c .before .before .before .before .before .before .before .before .before .args .bits .now) (c .before .before .before .before .before .before .before .before .before .args .known .now) (c .before .before .before .before .before .before .before .before .before .args .held .now) d ((entry-good (c .before .before .before .before .before .before .before .before .before .args .line .now) (c .before .before .before .before .before .before .before .parse .result) (c .before .before .before .before .before .before .before .parse .ensures) _ (c .before .before .before .before .before .entry4 .given .1)) .1) w)
 
 -- src/reader.rt:49:1
 returns-6 : tie.Need-returns-6
-returns-6 c = λ d w. follows-rest _ _ _ _ (ap (addLine d (c .before .before .before .before .before .before .before .before .args .n)) (line-is (c .before .before .before .before .before .before .before .before .args .line .now) (c .before .before .before .before .before .before .parse .result) (c .before .before .before .before .before .before .parse .ensures) _ (c .before .before .before .before .entry5 .given .1))) (c .add-read .ensures (c .before .before .before .before .before .before .before .before .args .bits .now) (c .before .before .before .before .before .before .before .before .args .known .now) (c .before .before .before .before .before .before .before .before .args .held .now) d w)
+returns-6 c = λ d w. agrees-same _ _ _ _ (ap (addLine d (c .before .before .before .before .before .before .before .before .args .n)) (line-is (c .before .before .before .before .before .before .before .before .args .line .now) (c .before .before .before .before .before .before .parse .result) (c .before .before .before .before .before .before .parse .ensures) _ (c .before .before .before .before .entry5 .given .1))) (c .add-read .ensures (c .before .before .before .before .before .before .before .before .args .bits .now) (c .before .before .before .before .before .before .before .before .args .known .now) (c .before .before .before .before .before .before .before .before .args .held .now) d w)
 
 pub add-line-spec : {M : Type 1} → statement M
 add-line-spec =

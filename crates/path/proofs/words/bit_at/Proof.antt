@@ -1,24 +1,21 @@
 -- `path::words::bit_at` meets its contract.
 -- Assumes nothing.
-use Prim.Native.Nat.{_/_, _^_}
-use native.Mathlib.Omega.{arith}
 use borrow.Author.Needs.{needs}
-use lib.Bits.{mask-lt}
 use Rattle.path.proofs.WordLaws.{bit-mask}
 use Rattle.path.proofs.words.bit_at.Statement.{statement}
 use Rattle.path.proofs.words.bit_at.Tie as tie
 
-cast-result : tie.Need-cast-result
-cast-result c = search needs
+shift-to-requires : tie.Need-shift-to-requires
+shift-to-requires c κs = search needs
 
-shr-result : tie.Need-shr-result
-shr-result c = search needs
+shr-as-index : tie.Need-shr-as-index
+shr-as-index c = search needs
 
-cast-result-2 : tie.Need-cast-result-2
-cast-result-2 c = omega (arith, mask-lt (c .args .w / 2 ^ c .args .i) 1)
+as-index-requires : tie.Need-as-index-requires
+as-index-requires c κs = search needs
 
 returns : tie.Need-returns
-returns c = bit-mask (c .args .w) (c .args .i)
+returns c = rw (c .as-index .ensures, c .before .shift-to .ensures) (bit-mask (c .before .before .args .w) (c .before .before .args .i))
 
 pub bit-at-spec : {M : Type 1} → statement M
-bit-at-spec = tie.close (tie.spec cast-result shr-result cast-result-2 returns)
+bit-at-spec = tie.close (tie.spec shift-to-requires shr-as-index as-index-requires returns)

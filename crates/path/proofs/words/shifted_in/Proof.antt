@@ -6,17 +6,20 @@ use Rattle.path.proofs.WordLaws.{top-placed}
 use Rattle.path.proofs.words.shifted_in.Statement.{statement}
 use Rattle.path.proofs.words.shifted_in.Tie as tie
 
-sub-result : tie.Need-sub-result
-sub-result c = search needs
+sub-shift-to : tie.Need-sub-shift-to
+sub-shift-to c = search needs
 
-cast-result : tie.Need-cast-result
-cast-result c = search needs
+shift-to-requires : tie.Need-shift-to-requires
+shift-to-requires c κs = search needs
 
 shl-result : tie.Need-shl-result
 shl-result c = search needs
 
 returns : tie.Need-returns
-returns c = top-placed (c .args .len) (c .pre .1 .0) wordWidth (c .args .w) (c .args .b) (c .pre .0) (c .pre .1 .1 .0) (c .pre .1 .1 .1)
+returns c =
+    let a = c .before .args in
+    let p = c .before .pre in
+    rw (c .shift-to .ensures) (top-placed (a .len) (p .1 .0) wordWidth (a .w) (a .b) (p .0) (p .1 .1 .0) (p .1 .1 .1))
 
 pub shifted-in-spec : {M : Type 1} → statement M
-shifted-in-spec = tie.close (tie.spec sub-result cast-result shl-result returns)
+shifted-in-spec = tie.close (tie.spec sub-shift-to shift-to-requires shl-result returns)

@@ -16,16 +16,16 @@ use Rattle.model.specs.NetworkText.{targetSegment, fitsTarget, readNetwork}
 use Rattle.model.proofs.Lists.{true-false, and-parts, length-tabulate}
 use Rattle.model.proofs.Accepted.{Accepted, accepted}
 use Rattle.model.proofs.WellFormed.{GoodNode}
-use Rattle.path.specs.Layout.{nodeAt, nodesOf, wordBit}
+use Rattle.path.specs.Layout.{nodeAt, nodesOf, wordWidth, wordBit}
 use Rattle.path.proofs.StoredLaws.{Stored}
 use Rattle.network.specs.declared.draft.Tally.{Tally}
 use Rattle.network.specs.declared.reader.Network.{Network}
 use Rattle.network.specs.declared.reader.Reading.{Reading}
 use Rattle.network.specs.declared.reader.Verdict.{Verdict}
 use Rattle.network.specs.declared.reader.Verdict.the-variants.{Accepted as Passed, Refused as Rejected}
 use Rattle.network.specs.Draws.{targetAt, targetsOf}
 use Rattle.network.specs.Reads.{networkOf, readingBy, Filled, FilledIf, IsReading}
 use Rattle.network.proofs.BadAddresses.{node-in, node-zero, node-beyond}
 
 pub record Recorded (t : Bytes) (r : Network) : Type 0 where
   pub reads : readNetwork t ≡ ok (networkOf r)
@@ -60,7 +60,7 @@ fits-segment ns (write s bs) e = and-parts (isSegment (at ns s noNode)) _ e .0
 pub record TargetSegment (ns : List ℕ) (count s : ℕ) : Type 0 where
   pub least : 1 ≤ s
   pub most : s ≤ count
-  pub short : lenOf (nodeAt ns s) ≤ 32
+  pub short : lenOf (nodeAt ns s) ≤ wordWidth
 
 good-short : (all : List Node) (k : ℕ) (x : Node) → GoodNode all k x → lenOf x ≤ 32
 good-short all k (segment from len shadow) g = g .most
@@ -102,4 +102,4 @@ module _ (t : Bytes) (r : Network) (c : Recorded t r) where
           go : Dec (s < 1) → Dec (r .tally .count < s) → TargetSegment (r .nodes) (r .tally .count) s
           go (yes h) d = absurd (true-false (sym e ∙ ap isSegment (node-zero (r .nodes) (r .tally .count) s h)))
           go (no h) (yes l) = absurd (true-false (sym e ∙ ap isSegment (node-beyond (r .nodes) (r .tally .count) s l)))
-          go (no h) (no l) = record { least = omega arith; most = omega arith; short = short-node s (omega arith) (omega arith) }
+          go (no h) (no l) = record { least = omega arith; most = omega arith; short = omega (arith, short-node s (omega arith) (omega arith)) }
