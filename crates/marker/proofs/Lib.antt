@@ -4,3 +4,4 @@ pub mod Running
 pub mod Rows
 pub mod Judging
 pub mod Verdicts
+pub mod Demand

@@ -2,3 +2,4 @@
 pub mod Marks
 pub mod Targets
 pub mod Operations
+pub mod Demand

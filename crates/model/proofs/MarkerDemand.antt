@@ -53,7 +53,7 @@ marker-exact n p = (there, back)
         )
 
 -- the verdict on two texts is the verdict on what they give
-marked-texts : (n p : Bytes) (net : Network) (plan : Plan) (pass : Pass) → readNetwork n ≡ ok net → readPlan p ≡ ok plan → mark n p ≡ ok pass → markPlan net plan ≡ ok pass
+pub marked-texts : (n p : Bytes) (net : Network) (plan : Plan) (pass : Pass) → readNetwork n ≡ ok net → readPlan p ≡ ok plan → mark n p ≡ ok pass → markPlan net plan ≡ ok pass
 unfolding mark
 marked-texts n p net plan pass e f m =
     ap (λ (r : Result Plan). andThen r (markPlan net)) (sym f) ∙ ap (λ (r : Result Network). andThen r (λ net. andThen (readPlan p) (markPlan net))) (sym e) ∙ m
