@@ -11,12 +11,12 @@ use lib.ListN.{length, getD}
 use lib.Dec.{eqb}
 use Rattle.model.specs.Result.{Result, ok, refused}
 use Rattle.model.specs.Text.{Bytes}
-use Rattle.model.specs.Network.{Node, segment, multiplexer, Target, read, write, at, noNode, isSegment, lenOf, tabulate}
+use Rattle.model.specs.Network.{Node, Target, read, write, at, noNode, isSegment, lenOf, tabulate}
 use Rattle.model.specs.NetworkText.{targetSegment, fitsTarget, readNetwork}
 use Rattle.model.proofs.Lists.{true-false, and-parts, length-tabulate}
 use Rattle.model.proofs.Accepted.{Accepted, accepted}
-use Rattle.model.proofs.WellFormed.{GoodNode}
 use Rattle.path.specs.Layout.{nodeAt, nodesOf, wordWidth, wordBit}
+use Rattle.path.proofs.ConfigLaws.{good-most}
 use Rattle.path.proofs.StoredLaws.{Stored}
 use Rattle.network.specs.declared.draft.Tally.{Tally}
 use Rattle.network.specs.declared.reader.Network.{Network}
@@ -62,10 +62,6 @@ pub record TargetSegment (ns : List ℕ) (count s : ℕ) : Type 0 where
   pub most : s ≤ count
   pub short : lenOf (nodeAt ns s) ≤ wordWidth
 
-good-short : (all : List Node) (k : ℕ) (x : Node) → GoodNode all k x → lenOf x ≤ 32
-good-short all k (segment from len shadow) g = g .most
-good-short all k (multiplexer s b ins) g = omega arith
-
 segment-at : (ns : List ℕ) (t : Tally) (i : ℕ) → targetSegment (targetAt ns t i) ≡ getD (t .«target_segment») i 0
 segment-at ns t i = go (eqb (getD (t .«target_write») i 0) 1)
   where
@@ -80,11 +76,11 @@ module _ (t : Bytes) (r : Network) (c : Recorded t r) where
   abbrev ns : List Node
   ns = nodesOf (r .nodes) (r .tally .count)
 
-  short-node : (s : ℕ) → 1 ≤ s → s ≤ r .tally .count → lenOf (nodeAt (r .nodes) s) ≤ 32
+  short-node : (s : ℕ) → 1 ≤ s → s ≤ r .tally .count → lenOf (nodeAt (r .nodes) s) ≤ wordWidth
   short-node zero a b = absurd (omega arith)
   short-node (suc n) a b =
-      subst (λ (x : Node). lenOf x ≤ 32) (node-in (r .nodes) (r .tally .count) (suc n) a b)
-      (good-short ns (suc n) (getD ns n noNode) (c .net .wf .backwards n (omega (arith, length-tabulate (nodeAt (r .nodes)) 1 (r .tally .count)))))
+      subst (λ (x : Node). lenOf x ≤ wordWidth) (node-in (r .nodes) (r .tally .count) (suc n) a b)
+      (good-most ns (suc n) (getD ns n noNode) (c .net .wf .backwards n (omega (arith, length-tabulate (nodeAt (r .nodes)) 1 (r .tally .count)))))
 
   target-is : (i : ℕ) → i < r .tally .«target_count» → isSegment (at ns (getD (r .tally .«target_segment») i 0) noNode) ≡ true
   target-is i lt =
@@ -102,4 +98,4 @@ module _ (t : Bytes) (r : Network) (c : Recorded t r) where
           go : Dec (s < 1) → Dec (r .tally .count < s) → TargetSegment (r .nodes) (r .tally .count) s
           go (yes h) d = absurd (true-false (sym e ∙ ap isSegment (node-zero (r .nodes) (r .tally .count) s h)))
           go (no h) (yes l) = absurd (true-false (sym e ∙ ap isSegment (node-beyond (r .nodes) (r .tally .count) s l)))
-          go (no h) (no l) = record { least = omega arith; most = omega arith; short = omega (arith, short-node s (omega arith) (omega arith)) }
+          go (no h) (no l) = record { least = omega arith; most = omega arith; short = short-node s (omega arith) (omega arith) }

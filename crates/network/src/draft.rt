@@ -192,7 +192,7 @@ pub fn mark_steering(steering: &mut Words, x: NodeData)
 }
 
 // Bit b of segment s is marked, if there are such a segment and such a bit.
-fn mark_bit(steering: &mut Words, s: usize, b: usize)
+pub fn mark_bit(steering: &mut Words, s: usize, b: usize)
     requires { ⌜ length (now steering) ≡ 129 ⌝ }
     ensures { λ _. ⌜ Rattle.network.specs.Store.BitMarked (now (steering .entry)) s b (now (steering .exit)) ⌝ }
 {

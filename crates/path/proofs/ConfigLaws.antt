@@ -80,7 +80,7 @@ shadow-number nodes (suc n) e = (omega arith, go (leb (length nodes) n) refl)
     go true q = absurd (true-false (sym e ∙ ap hasShadow (List·getD-eq-default nodes noNode {n = n} (leb-true (length nodes) n q))))
     go false q = leb-false (length nodes) n q
 
-good-most : (nodes : List Node) (k : ℕ) (nd : Node) → GoodNode nodes k nd → lenOf nd ≤ wordWidth
+pub good-most : (nodes : List Node) (k : ℕ) (nd : Node) → GoodNode nodes k nd → lenOf nd ≤ wordWidth
 good-most nodes k (segment from len sh) g = omega (arith, g .most)
 good-most nodes k (multiplexer s b ins) g = omega arith
 
