@@ -56,17 +56,20 @@ unfolding clocksOf
 clocks-of p plan e = rw e
 
 pub pass-borne-out : PassBorneOut
-pass-borne-out n p m lines count e q tms tdi w tms′ tdi′ wrote a b = (answer-clocks w count (wrote .result ∙ result), record {
-  net = v .net;
-  plan = v .plan;
-  list = planClocks (v .plan);
-  accepted = v .accepted;
-  reads = v .reads;
-  as-many = many;
-  tms-row = ap (take count) (wrote .tms-left) ∙ ap (λ (k : ℕ). take k (writeClocks p tms tdi .tms)) (sym many) ∙ row .tms-row;
-  tdi-row = ap (take count) (wrote .tdi-left) ∙ ap (λ (k : ℕ). take k (writeClocks p tms tdi .tdi)) (sym many) ∙ row .tdi-row;
-  upheld = λ first holds fed. played n p (v .net) (v .plan) (planClocks (v .plan)) pass (v .accepted) (v .reads) list-is is first holds fed;
-})
+pass-borne-out n p m lines count e q tms tdi w tms′ tdi′ wrote a b = (
+  answer-clocks w count (wrote .result ∙ result),
+  record {
+    net = v .net;
+    plan = v .plan;
+    list = planClocks (v .plan);
+    accepted = v .accepted;
+    reads = v .reads;
+    as-many = many;
+    tms-row = ap (take count) (wrote .tms-left) ∙ ap (λ (k : ℕ). take k (writeClocks p tms tdi .tms)) (sym many) ∙ row .tms-row;
+    tdi-row = ap (take count) (wrote .tdi-left) ∙ ap (λ (k : ℕ). take k (writeClocks p tms tdi .tdi)) (sym many) ∙ row .tdi-row;
+    upheld = λ first holds fed. played n p (v .net) (v .plan) (planClocks (v .plan)) pass (v .accepted) (v .reads) list-is is first holds fed;
+  },
+)
   where
     pass : Pass
     pass = record { operations = lines; clocks = count; gots = gotsOf (m .gots) }

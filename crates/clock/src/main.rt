@@ -1,0 +1,16 @@
+// clock PLAN: the plan text in that file, or on standard input without an argument.
+// It prints `clk` with TMS and TDI for each operation, or `fail` with number and place.
+fn main() {
+    if 2 < os::arg_count() {
+        console::put_usage(
+            b"usage: clock [PLAN]\nPLAN is a plan text; without it standard input is read\n",
+        );
+        return;
+    }
+    let mut text = [0u8; 64081];
+    let input = console::read_input(b"PLAN", &mut text);
+    if input.is_read {
+        let n = input.count;
+        printed::clocks::show(&text[..n]);
+    }
+}

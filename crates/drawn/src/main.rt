@@ -1,0 +1,98 @@
+// drawn: what the programs print for the networks of document 01, "Drawn networks", each behind a title line.
+fn put_title(title: &[u8], program: &[u8]) {
+    console::put(title);
+    console::put(program);
+    console::end_line();
+}
+
+fn read(title: &[u8], network: &[u8]) {
+    put_title(title, b": read");
+    printed::reading::show(network);
+}
+
+fn mark(title: &[u8], network: &[u8], plan: &[u8]) {
+    put_title(title, b": mark");
+    printed::mark::show(network, plan);
+}
+
+fn clock(title: &[u8], plan: &[u8]) {
+    put_title(title, b": clock");
+    printed::clocks::show(plan);
+}
+
+// A network text that is refused, whatever the plan.
+fn refuse(title: &[u8], network: &[u8]) {
+    read(title, network);
+    mark(title, network, b"");
+}
+
+fn network_a() {
+    let a = b"seg\t0\t4\ts\nmux\t3\t0\t0\t1\nseg\t2\t1\ts\nout\t3\nwrite\t1\t1010\n";
+    let plan = b"csu\t1\ncsu\t00101\n";
+    mark(b"A", a, plan);
+    clock(b"A", plan);
+    mark(b"A, second line csu 0010", a, b"csu\t1\ncsu\t0010\n");
+}
+
+fn changed_a() {
+    mark(
+        b"A with hold 1 1010, no plan lines",
+        b"seg\t0\t4\ts\nmux\t3\t0\t0\t1\nseg\t2\t1\ts\nout\t3\nwrite\t1\t1010\nhold\t1\t1010\n",
+        b"",
+    );
+    refuse(
+        b"A with hold 3 X",
+        b"seg\t0\t4\ts\nmux\t3\t0\t0\t1\nseg\t2\t1\ts\nout\t3\nwrite\t1\t1010\nhold\t3\tX\n",
+    );
+    refuse(
+        b"A with write 3 1 instead",
+        b"seg\t0\t4\ts\nmux\t3\t0\t0\t1\nseg\t2\t1\ts\nout\t3\nwrite\t3\t1\n",
+    );
+}
+
+fn network_b() {
+    let b =
+        b"seg\t0\t2\ts\nseg\t0\t2\ts\nmux\t4\t0\t1\t2\nseg\t3\t1\ts\nout\t4\nread\t1\nread\t2\n";
+    mark(b"B", b, b"csu\t100\ncsu\t000\n");
+}
+
+fn network_c() {
+    let c = b"seg\t0\t1\ts\nseg\t1\t4\ts\nmux\t1\t0\t0\t2\nout\t3\nread\t2\n";
+    mark(b"C, csu with no bits", c, b"csu\t\n");
+}
+
+fn network_d() {
+    let d = b"seg\t0\t2\ts\nmux\t1\t0\t1\t1\t1\nout\t2\n";
+    mark(b"D, csu 01", d, b"csu\t01\n");
+    mark(b"D, csu 11", d, b"csu\t11\n");
+}
+
+fn edges() {
+    refuse(b"empty text", b"");
+    mark(b"out 0, the empty plan", b"out\t0\n", b"");
+    read(b"LEN 32", b"seg\t0\t32\ts\nout\t1\n");
+    refuse(b"LEN 33", b"seg\t0\t33\ts\nout\t1\n");
+}
+
+// Lines of no bits, each of five bytes.
+fn plan_lines() {
+    let seventeen: &[u8] =
+        b"csu\t\ncsu\t\ncsu\t\ncsu\t\ncsu\t\ncsu\t\ncsu\t\ncsu\t\ncsu\t\ncsu\t\ncsu\t\ncsu\t\ncsu\t\ncsu\t\ncsu\t\ncsu\t\ncsu\t\n";
+    mark(b"out 0, sixteen plan lines", b"out\t0\n", &seventeen[..80]);
+    mark(b"out 0, seventeen plan lines", b"out\t0\n", seventeen);
+    clock(b"seventeen plan lines", seventeen);
+}
+
+fn main() {
+    if 1 < os::arg_count() {
+        console::put_usage(b"usage: drawn\nIt takes no arguments\n");
+        return;
+    }
+    network_a();
+    changed_a();
+    network_b();
+    network_c();
+    network_d();
+    edges();
+    plan_lines();
+}
