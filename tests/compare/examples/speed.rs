@@ -1,26 +1,46 @@
-//! Time of the proved reader over the time of the plain Rust version, in one run.
+//! Time of the proved calls over the time of the plain Rust version, in one run.
 //! `cargo run --release --offline --manifest-path tests/compare/Cargo.toml --example speed`
 
 use std::hint::black_box;
 use std::time::{Duration, Instant};
 
-use penthluk_compare::{read, read_line};
+use penthluk_compare::expected::{clock_numbers, mark_numbers};
+use penthluk_compare::{clocks, mark, read, read_line};
+use penthluk_reference::clocks::write_clocks;
+use penthluk_reference::generate::edges::plan_line;
+use penthluk_reference::marker;
 use penthluk_reference::programs;
 use penthluk_reference::reader::read_network;
 
-const ROUNDS: usize = 15;
-const CALLS: usize = 200;
+/// Many short rounds: the least time is then one that nothing else on the machine disturbed.
+const ROUNDS: usize = 400;
+const CALLS: usize = 10;
 
-/// The least time of some rounds of calls.
-fn least(mut call: impl FnMut()) -> Duration {
-    let round = |call: &mut dyn FnMut()| {
-        let start = Instant::now();
-        for _ in 0..CALLS {
-            call();
-        }
-        start.elapsed()
-    };
-    (0..ROUNDS).map(|_| round(&mut call)).min().unwrap()
+/// The time of a round of calls.
+fn round(call: &mut dyn FnMut()) -> Duration {
+    let start = Instant::now();
+    for _ in 0..CALLS {
+        call();
+    }
+    start.elapsed()
+}
+
+/// Prints the least time of some rounds of the proved call, its bytes a second and its ratio to the
+/// least time of the plain call. The rounds of the two take turns.
+fn compare(name: &str, bytes: usize, mut proved: impl FnMut(), mut plain: impl FnMut()) {
+    let mut least = [Duration::MAX; 2];
+    for _ in 0..ROUNDS {
+        least[0] = least[0].min(round(&mut proved));
+        least[1] = least[1].min(round(&mut plain));
+    }
+    let [proved, plain] = least.map(|time| time.as_secs_f64() / CALLS as f64);
+    println!(
+        "{name}: {bytes} bytes, {:.1} us a call, {:.0} MB/s, plain {:.1} us, ratio {:.2}",
+        proved * 1e6,
+        bytes as f64 / proved / 1e6,
+        plain * 1e6,
+        proved / plain
+    );
 }
 
 /// Most nodes and bits: 125 segments of 32 bits, then multiplexers, each segment held.
@@ -55,23 +75,81 @@ fn most_bytes() -> Vec<u8> {
     (text + &fill).into_bytes()
 }
 
-fn main() {
+/// 128 segments of 31 or 32 bits in a row, four of them read: 4,000 bits.
+fn longest_path() -> Vec<u8> {
+    let mut text = String::new();
+    for number in 0..128 {
+        text += &format!("seg\t{number}\t{}\ts\n", if number < 32 { 32 } else { 31 });
+    }
+    (text + "out\t128\nread\t1\nread\t50\nread\t100\nread\t128\n").into_bytes()
+}
+
+/// 128 nodes, of which few are on the path: 63 pairs of a segment and a multiplexer past it, steered
+/// by a segment of one bit, and a target beside it.
+fn short_path() -> Vec<u8> {
+    let mut text = String::from("seg\t0\t1\ts\nseg\t1\t4\ts\n");
+    for pair in 0..63 {
+        let from = 2 * pair + 2;
+        text += &format!("seg\t{from}\t32\ts\nmux\t1\t0\t{from}\t{}\n", from + 1);
+    }
+    (text + "out\t128\nread\t2\n").into_bytes()
+}
+
+/// Sixteen operations of 4,000 bits: 64,080 bytes.
+fn longest_plan() -> Vec<u8> {
+    let bits: String = (0..4_000).map(|bit| if bit % 3 == 0 { '1' } else { '0' }).collect();
+    format!("csu\t{bits}\n").repeat(16).into_bytes()
+}
+
+fn readings() {
     for (name, text) in [
-        ("125 segments of 32 bits, all held", most_bits()),
-        ("127 multiplexers of four inputs", most_multiplexers()),
-        ("16,384 bytes", most_bytes()),
+        ("read, 125 segments of 32 bits, all held", most_bits()),
+        ("read, 127 multiplexers of four inputs", most_multiplexers()),
+        ("read, the longest text, refused at its last line", most_bytes()),
     ] {
         assert_eq!(read_line(read(&text)), programs::read(&text));
-        let proved = least(|| {
-            black_box(read(black_box(&text)));
-        });
-        let plain = least(|| drop(black_box(read_network(black_box(&text)))));
-        println!(
-            "{name}: {} bytes, {}: {:.1} us a call, ratio {:.2}",
-            text.len(),
-            String::from_utf8_lossy(&read_line(read(&text))).trim_end().replace('\t', " "),
-            proved.as_secs_f64() * 1e6 / CALLS as f64,
-            proved.as_secs_f64() / plain.as_secs_f64()
-        );
+        let proved = || _ = black_box(read(black_box(&text)));
+        let plain = || _ = black_box(read_network(black_box(&text)));
+        compare(name, text.len(), proved, plain);
     }
+}
+
+fn marks() {
+    let bits_5 = plan_line(5);
+    for (name, network, plan) in [
+        ("mark, 16 operations of 4,000 bits", longest_path(), longest_plan()),
+        ("mark, one operation of 5 bits on 128 nodes", short_path(), bits_5.clone()),
+        ("mark, 16 operations of 5 bits on 128 nodes", short_path(), bits_5.repeat(16)),
+    ] {
+        let numbers = mark(&network, &plan);
+        assert_eq!(numbers, mark_numbers(&marker::mark(&network, &plan)));
+        assert_eq!(numbers[0], 0, "{name}");
+        let proved = || _ = black_box(mark(black_box(&network), black_box(&plan)));
+        let plain = || _ = black_box(marker::mark(black_box(&network), black_box(&plan)));
+        compare(name, network.len() + plan.len(), proved, plain);
+    }
+}
+
+/// The buffers are lent again and again and not cleared in between.
+fn clock_writings() {
+    for (name, plan) in [
+        ("clocks, 16 operations of 4,000 bits", longest_plan()),
+        ("clocks, 16 operations of 5 bits", plan_line(5).repeat(16)),
+    ] {
+        let [mut tms, mut tdi, mut plain_tms, mut plain_tdi] = [(); 4].map(|_| vec![0; plan.len()]);
+        let numbers = clocks(&plan, &mut tms, &mut tdi);
+        let expected = write_clocks(&plan, &mut plain_tms, &mut plain_tdi);
+        assert_eq!(numbers, clock_numbers(&expected));
+        assert!(tms == plain_tms && tdi == plain_tdi);
+        let proved = || _ = black_box(clocks(black_box(&plan), &mut tms, &mut tdi));
+        let plain =
+            || _ = black_box(write_clocks(black_box(&plan), &mut plain_tms, &mut plain_tdi));
+        compare(name, plan.len(), proved, plain);
+    }
+}
+
+fn main() {
+    readings();
+    marks();
+    clock_writings();
 }

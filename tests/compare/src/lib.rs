@@ -1,15 +1,76 @@
 //! The proved calls, through the static library of the crate `exports`.
 
+pub mod expected;
+
 extern "C" {
     /// `pub extern "C" fn penthluk_read(text: &[u8], answer: &mut [usize; 5])`
     fn penthluk_read(text: *const u8, text_length: usize, answer: *mut usize);
+
+    /// `pub extern "C" fn penthluk_mark(network: &[u8], plan: &[u8], answer: &mut [usize; 16])`
+    fn penthluk_mark(
+        network: *const u8,
+        network_length: usize,
+        plan: *const u8,
+        plan_length: usize,
+        answer: *mut usize,
+    );
+
+    /// `pub extern "C" fn penthluk_clocks(plan: &[u8], tms: &mut [u8], tdi: &mut [u8], answer: &mut [usize; 2])`
+    fn penthluk_clocks(
+        plan: *const u8,
+        plan_length: usize,
+        tms: *mut u8,
+        tms_length: usize,
+        tdi: *mut u8,
+        tdi_length: usize,
+        answer: *mut usize,
+    );
 }
+
+/// A number that no call answers: what stands in an answer before the call.
+const UNWRITTEN: usize = usize::MAX;
 
 /// 0 and the four counts of an accepted network, or number and place of a refusal and three zeros.
 pub fn read(text: &[u8]) -> [usize; 5] {
-    let mut answer = [0; 5];
+    let mut answer = [UNWRITTEN; 5];
     // SAFETY: the call has no `requires`; it reads the slice and writes the five numbers.
     unsafe { penthluk_read(text.as_ptr(), text.len(), answer.as_mut_ptr()) };
+    answer
+}
+
+/// 0, the counts of operations, of clocks and of `got` rows, and the rows as target, operation and
+/// place; or number and place of a refusal. Zeros stand behind.
+pub fn mark(network: &[u8], plan: &[u8]) -> [usize; 16] {
+    let mut answer = [UNWRITTEN; 16];
+    // SAFETY: the call has no `requires`; it reads the slices and writes the sixteen numbers.
+    unsafe {
+        penthluk_mark(
+            network.as_ptr(),
+            network.len(),
+            plan.as_ptr(),
+            plan.len(),
+            answer.as_mut_ptr(),
+        )
+    };
+    answer
+}
+
+/// Writes the clocks of a plan text. 0 and their count, or number and place of a refusal.
+pub fn clocks(plan: &[u8], tms: &mut [u8], tdi: &mut [u8]) -> [usize; 2] {
+    let mut answer = [UNWRITTEN; 2];
+    // SAFETY: the call has no `requires`; it reads the plan and writes within the two slices, which
+    // do not overlap, and the two numbers.
+    unsafe {
+        penthluk_clocks(
+            plan.as_ptr(),
+            plan.len(),
+            tms.as_mut_ptr(),
+            tms.len(),
+            tdi.as_mut_ptr(),
+            tdi.len(),
+            answer.as_mut_ptr(),
+        )
+    };
     answer
 }
 

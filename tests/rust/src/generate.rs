@@ -8,6 +8,7 @@ pub mod edges;
 pub mod faults;
 pub mod large;
 pub mod maze;
+pub mod near;
 pub mod plan_damage;
 pub mod plans;
 pub mod random;

@@ -1,0 +1,30 @@
+//! The plain Rust version's answers as the numbers that the proved calls give.
+
+use penthluk_reference::marker::Pass;
+use penthluk_reference::refusal::Refusal;
+
+/// The numbers of a mark.
+pub fn mark_numbers(result: &Result<Pass, Refusal>) -> [usize; 16] {
+    let mut numbers = match result {
+        Ok(pass) => {
+            let rows = pass.gots.iter().flat_map(|got| [got.target, got.operation, got.place]);
+            let counts = [0, pass.operations, pass.clocks, pass.gots.len()];
+            counts.into_iter().chain(rows).collect()
+        }
+        Err(refusal) => refusal_numbers(refusal).to_vec(),
+    };
+    numbers.resize(16, 0);
+    numbers.try_into().expect("a network has at most four targets")
+}
+
+/// The numbers of the clock writer's answer.
+pub fn clock_numbers(result: &Result<usize, Refusal>) -> [usize; 2] {
+    match result {
+        Ok(count) => [0, *count],
+        Err(refusal) => refusal_numbers(refusal),
+    }
+}
+
+pub fn refusal_numbers(refusal: &Refusal) -> [usize; 2] {
+    [refusal.number as usize, refusal.place as usize]
+}

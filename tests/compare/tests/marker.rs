@@ -1,0 +1,207 @@
+//! The proved marker answers as the plain Rust version does: verdict, counts and `got` rows.
+
+use penthluk_compare::expected::{mark_numbers, refusal_numbers};
+use penthluk_reference::generate::cases::{case, damaged_with, draw_network, draw_plan};
+use penthluk_reference::generate::edges::{
+    draw_edge_network, draw_edge_plan, held_chain, plan_line,
+};
+use penthluk_reference::generate::faults::FAULTS;
+use penthluk_reference::generate::large::{full, large};
+use penthluk_reference::generate::near::{near, CHANGES};
+use penthluk_reference::generate::plan_damage::{damage_plan, PLAN_FAULTS};
+use penthluk_reference::generate::plans::wander;
+use penthluk_reference::generate::random::Random;
+use penthluk_reference::limits::MAX_OPERATIONS;
+use penthluk_reference::marker;
+use penthluk_reference::plan_text::write_plan;
+use penthluk_reference::reader::read_network;
+use penthluk_reference::refusal::Refusal;
+
+/// Pairs from all generators of networks and plans.
+const CASES: u64 = 100_000;
+/// Networks whose passed plan is changed in each way.
+const NETWORKS: u64 = 30_000;
+/// Damaged texts of each kind.
+const DAMAGED: u64 = 1_000;
+/// Networks near the limits.
+const LARGE: u64 = 300;
+
+/// How often each number came; 0 is a pass.
+#[derive(Default, Debug)]
+struct Counts {
+    numbers: [usize; 18],
+    /// Passes by their count of `got` rows.
+    rows: [usize; 5],
+}
+
+impl Counts {
+    /// Compares the two marks and notes the number.
+    #[track_caller]
+    fn compare(&mut self, network: &[u8], plan: &[u8]) -> [usize; 16] {
+        let answer = penthluk_compare::mark(network, plan);
+        let expected = mark_numbers(&marker::mark(network, plan));
+        assert_eq!(
+            answer,
+            expected,
+            "{:?} {:?}",
+            String::from_utf8_lossy(network),
+            String::from_utf8_lossy(plan)
+        );
+        self.numbers[answer[0]] += 1;
+        if answer[0] == 0 {
+            self.rows[answer[3]] += 1;
+        }
+        answer
+    }
+
+    /// As `compare`, where the refusal is known.
+    #[track_caller]
+    fn compare_refused(&mut self, network: &[u8], plan: &[u8], refusal: &Refusal) {
+        assert_eq!(self.compare(network, plan)[..2], refusal_numbers(refusal));
+    }
+
+    #[track_caller]
+    fn at_least(&self, numbers: &[usize], least: usize) {
+        assert!(numbers.iter().all(|&number| self.numbers[number] >= least), "{self:?}");
+    }
+}
+
+/// Pairs of all kinds: every refusal of the network and of the plan comes, and passes with any count
+/// of rows.
+#[test]
+fn generated_pairs() {
+    let mut counts = Counts::default();
+    for seed in 0..CASES {
+        let case = case(seed);
+        counts.compare(&case.network, &case.plan);
+    }
+    counts.at_least(&[0, 1, 2, 3, 4, 5, 6, 7, 8, 9, 14, 15, 16, 17], CASES as usize / 1_000);
+    assert!(counts.rows.iter().all(|&count| count as u64 >= CASES / 2_000), "{counts:?}");
+}
+
+/// A passed plan, and that plan with one change: a bit too many or too few, a bit or an address
+/// turned, the last operations left out, a last configuration that is not valid.
+#[test]
+fn near_plans() {
+    let random = &mut Random::new(1_001);
+    let mut whole = Counts::default();
+    let mut changed = [(); CHANGES.len()].map(|_| Counts::default());
+    for _ in 0..NETWORKS {
+        let text = draw_network(random).text();
+        let Ok(network) = read_network(&text) else { continue };
+        let plan = draw_plan(random, &network);
+        if whole.compare(&text, &write_plan(&plan))[0] != 0 {
+            continue;
+        }
+        for (change, counts) in CHANGES.into_iter().zip(&mut changed) {
+            for _ in 0..3 {
+                let Some((plan, expected)) = near(random, &network, &plan, change) else {
+                    continue;
+                };
+                match expected {
+                    Some(refusal) => counts.compare_refused(&text, &write_plan(&plan), &refusal),
+                    None => _ = counts.compare(&text, &write_plan(&plan)),
+                }
+            }
+        }
+    }
+    let [longer, shorter, bit, address, cut, bad_last] = &changed;
+    whole.at_least(&[0, 15, 16, 17], 1_000);
+    longer.at_least(&[15], 30_000);
+    shorter.at_least(&[15], 30_000);
+    bit.at_least(&[0, 15, 16, 17], 200);
+    address.at_least(&[0, 15, 16, 17], 100);
+    cut.at_least(&[0, 17], 15_000);
+    bad_last.at_least(&[16], 2_000);
+    assert!(bit.rows.iter().all(|&count| count >= 100), "{bit:?}");
+}
+
+/// Plan texts of wrong form in each way, for accepted networks; and networks with each fault, beside
+/// a good plan text and beside a bad one.
+#[test]
+fn damaged_texts() {
+    let random = &mut Random::new(1_002);
+    let mut counts = Counts::default();
+    for fault in PLAN_FAULTS {
+        for _ in 0..DAMAGED {
+            let text = draw_network(random).text();
+            let Ok(network) = read_network(&text) else { continue };
+            let operations = random.below(MAX_OPERATIONS);
+            let plan = write_plan(&wander(random, &network, operations, 80));
+            let (plan, refusal) = damage_plan(random, &plan, fault);
+            counts.compare_refused(&text, &plan, &refusal);
+        }
+    }
+    counts.at_least(&[14], 6 * DAMAGED as usize);
+    for fault in FAULTS {
+        for round in 0..DAMAGED / 4 {
+            let (damaged, _) = damaged_with(random, &[fault]);
+            let plan = [&b"csu\t0101\n"[..], b"csu\t", b"", b"csu\t\n"][round as usize % 4];
+            match damaged.expected() {
+                Some(refusal) => counts.compare_refused(&damaged.text(), plan, &refusal),
+                None => _ = counts.compare(&damaged.text(), plan),
+            }
+        }
+    }
+    counts.at_least(&[1, 2, 3, 4, 5, 6, 7, 8, 9], DAMAGED as usize / 10);
+}
+
+/// Networks and plans at the limits: 128 nodes, 4,000 bits, sixteen operations, 64,080 bytes.
+#[test]
+fn large_texts() {
+    let random = &mut Random::new(1_003);
+    let mut counts = Counts::default();
+    for _ in 0..LARGE {
+        for text in [full().text(), held_chain(random).text(), large(random).text()] {
+            let Ok(network) = read_network(&text) else { continue };
+            let plan = write_plan(&wander(random, &network, MAX_OPERATIONS, 95));
+            counts.compare(&text, &plan);
+            counts.compare(&text, &plan[..plan.len() - 1]);
+            counts.compare(&text, &[&plan[..], b"csu\t\n"].concat());
+            counts.compare(&text, &draw_edge_plan(random));
+        }
+        counts.compare(&draw_edge_network(random), &draw_edge_plan(random));
+    }
+    counts.at_least(&[0, 14, 15, 16, 17], 200);
+    counts.at_least(&[3, 6], 20);
+    assert!(counts.rows[2] >= 200, "{counts:?}");
+}
+
+/// The drawn networks of document 01 with every plan of at most two operations of at most five bits.
+#[test]
+fn every_short_plan() {
+    let networks: [&[u8]; 5] = [
+        b"seg\t0\t4\ts\nmux\t3\t0\t0\t1\nseg\t2\t1\ts\nout\t3\nwrite\t1\t1010\n",
+        b"seg\t0\t2\ts\nseg\t0\t2\ts\nmux\t4\t0\t1\t2\nseg\t3\t1\ts\nout\t4\nread\t1\nread\t2\n",
+        b"seg\t0\t1\ts\nseg\t1\t4\ts\nmux\t1\t0\t0\t2\nout\t3\nread\t2\n",
+        b"seg\t0\t2\ts\nmux\t1\t0\t1\t1\t1\nout\t2\n",
+        b"out\t0\n",
+    ];
+    let lines: Vec<Vec<u8>> = (0..=5).flat_map(lines_of).collect();
+    assert_eq!(lines.len(), 63);
+    let mut counts = Counts::default();
+    for network in networks {
+        counts.compare(network, b"");
+        for first in &lines {
+            counts.compare(network, first);
+            for second in &lines {
+                counts.compare(network, &[&first[..], second].concat());
+            }
+        }
+        for lines in [15, 16, 17] {
+            counts.compare(network, &plan_line(0).repeat(lines));
+        }
+    }
+    counts.at_least(&[0, 14, 15, 16, 17], 5);
+    assert!(counts.rows[2] > 0, "{counts:?}");
+}
+
+/// Every plan line of so many bits.
+fn lines_of(bits: usize) -> Vec<Vec<u8>> {
+    let line = |number: usize| {
+        let bits: String =
+            (0..bits).map(|bit| if number >> bit & 1 == 1 { '1' } else { '0' }).collect();
+        format!("csu\t{bits}\n").into_bytes()
+    };
+    (0..1 << bits).map(line).collect()
+}
