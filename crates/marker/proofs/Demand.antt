@@ -28,7 +28,7 @@ use Rattle.marker.specs.Marks.{gotsOf, verdictOf}
 use Rattle.marker.specs.Demand.{Marked, WroteClocks, PassesExactly, BorneOut, PassBorneOut}
 
 -- the pass of a verdict
-verdict-pass : (v : Verdict) (gs : List Got) (pass : Pass) → verdictOf v gs ≡ ok pass → (lines clocks : ℕ) × (v ≡ Passed lines clocks)
+pub verdict-pass : (v : Verdict) (gs : List Got) (pass : Pass) → verdictOf v gs ≡ ok pass → (lines clocks : ℕ) × (v ≡ Passed lines clocks)
 verdict-pass (Passed lines clocks) gs pass e = (lines, clocks, refl)
 verdict-pass (Refused number place) gs pass e = absurd (not-ok e)
 

@@ -97,7 +97,7 @@ module _ (n : Bytes) (net : Network) (search plan : List ℕ) (is : readNetwork 
       go : Left → PlansExactly n net search plan
       go (none-left g r) = record {
         none-exactly = (λ e. searched-is n net is .missing g, λ f. r);
-        only-11 = λ number place e. refusal-number (sym e ∙ r);
+        only-11 = λ number place e. (refusal-number (sym e ∙ r), refusal-place (sym e ∙ r));
         otherwise = λ count e. absurd (not-ok (sym r ∙ e));
       }
       go (plan-left p g r b) = record {

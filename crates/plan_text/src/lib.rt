@@ -3,6 +3,7 @@ ghost use mathlib.Core.Path.{_≡_};
 ghost use mathlib.Core.List.{map};
 ghost use Prim.Native.Nat.{_+_, _≤_};
 ghost use lib.ListN.{length, drop};
+ghost use lib.Dec.{leb};
 ghost use Rattle.model.specs.Tap.{bitByte};
 ghost use Rattle.plan_text.specs.Form.{formOf, planForm};
 ghost use Rattle.plan_text.specs.Lines.{bitRun, lineFor, nextFrom};
@@ -25,12 +26,45 @@ enum Line {
     Bad,
 }
 
+// Whether the 32 bytes from a place on are all `0` or `1`. The loop has no early exit, so that the compiler can compare many bytes at once.
+fn block_of_bits(s: &[u8], at: usize) -> bool
+    requires { ⌜ at + 32 ≤ length (now s) ⌝ }
+    ensures { λ r. ⌜ r ≡ leb 32 (length (bitRun (drop at (now (s .entry))))) ⌝ }
+{
+    let mut all = true;
+    let mut j: usize = 0;
+    while j < 32 {
+        let b = s[at + j];
+        match b {
+            b'0'..=b'1' => {}
+            _ => all = false,
+        }
+        j += 1;
+    }
+    all
+}
+
+// The place behind whole blocks of 32 bits from a place on: the bits from either place on end at the same byte.
+fn blocks_end(s: &[u8], at: usize) -> usize
+    requires { ⌜ at ≤ length (now s) ⌝ }
+    ensures { λ r. ⌜ r + length (bitRun (drop r (now (s .entry)))) ≡ at + length (bitRun (drop at (now (s .entry)))) ⌝ }
+{
+    let mut i = at;
+    while 32 <= s.len() - i {
+        if !block_of_bits(s, i) {
+            return i;
+        }
+        i += 32;
+    }
+    i
+}
+
 // The place of the first byte at or behind a place that is neither `0` nor `1`, or the length where there is none.
 fn bits_end(s: &[u8], at: usize) -> usize
     requires { ⌜ at ≤ length (now s) ⌝ }
     ensures { λ r. ⌜ r ≡ at + length (bitRun (drop at (now (s .entry)))) ⌝ }
 {
-    let mut i = at;
+    let mut i = blocks_end(s, at);
     while i < s.len() {
         let b = s[i];
         match b {
@@ -63,7 +97,7 @@ fn line_at(plan: &[u8], at: usize) -> Line
     Line::Next(end + 1)
 }
 
-// The form of a plan text, each byte looked at once.
+// The form of a plan text, line by line.
 pub fn check_form(plan: &[u8]) -> Form
     ensures { λ r. ⌜ formOf r ≡ planForm (now (plan .entry)) ⌝ }
 {

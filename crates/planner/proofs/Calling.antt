@@ -1,0 +1,97 @@
+-- Laws of the planner's call: what each ending says of the model's `makePlan`.
+-- Assumes nothing.
+use mathlib.Core.Path.{_≡_, refl, sym, ap, _∙_}
+use mathlib.Core.Option.{Option, none, some}
+use mathlib.Core.List.{List}
+use Prim.Native.Nat.{ℕ, _≤_, _<_}
+use native.Mathlib.Omega.{arith}
+use lib.ListN.{length, replicate}
+use borrow.Author.Tests.{lt-ltb, le-ltb}
+use Rattle.model.specs.Result.{Result, ok, refused, andThen}
+use Rattle.model.specs.Text.{Bytes}
+use Rattle.model.specs.Network.{Network as ModelNetwork, steeringBits}
+use Rattle.model.specs.Plan.{Plan}
+use Rattle.model.specs.PlanText.{writePlan}
+use Rattle.model.specs.NetworkText.{readNetwork}
+use Rattle.model.specs.Planner.{planFor}
+use Rattle.model.specs.Calls.{writeOver, written, countOf, ifRoom, searchEntries, searchable, found, textOf, planned, cleared, PlanAnswer, makePlan}
+use Rattle.network.specs.declared.reader.Network.{Network}
+use Rattle.network.specs.Reads.{networkOf}
+use Rattle.planner.specs.declared.writer.Planned.{Planned}
+use Rattle.planner.specs.declared.writer.Planned.the-variants.{Written, Refused}
+use Rattle.planner.specs.Writing.{answerOf, Given}
+use Rattle.planner.specs.Call.{PlansIn}
+
+-- ---- the text, by the room for it
+
+module _ (text : Bytes) (old : List ℕ) (needed : ℕ) (is : needed ≡ length text) where
+  -- 13
+  pub given-short : length old < needed → Given text old (Refused 13 needed) old
+  given-short h =
+      let e : ifRoom (length old) text ≡ refused 13 needed = rw (lt-ltb (length old) (length text) (omega arith)) (ap (refused 13) (sym is)) in
+      record { result = ap countOf (sym e); left = ap (λ (x : Result (List ℕ)). written x old) (sym e) }
+
+  pub given-written : needed ≤ length old → (new : List ℕ) → new ≡ writeOver text old → Given text old (Written needed) new
+  given-written h new w =
+      let e : ifRoom (length old) text ≡ ok text = rw (le-ltb (length old) (length text) (omega arith)) in
+      record { result = ap ok is ∙ ap countOf (sym e); left = w ∙ ap (λ (x : Result (List ℕ)). written x old) (sym e) }
+
+-- ---- the answer of the search
+
+planned-none : (net : ModelNetwork) (room : ℕ) → planFor net ≡ none → planned (ok net) room ≡ refused 11 0
+planned-none net room e = rw e
+
+planned-some : (net : ModelNetwork) (room : ℕ) (p : Plan) → planFor net ≡ some p → planned (ok net) room ≡ ifRoom room (writePlan p)
+planned-some net room p e = rw e
+
+module _ (r : Network) (search plan search′ : List ℕ) (clear : search′ ≡ writeOver (replicate searchEntries 0) search) where
+  plans-by : (x : Result (List ℕ)) (a : Planned) (plan′ : List ℕ) → planned (ok (networkOf r)) (length plan) ≡ x → answerOf a ≡ countOf x → plan′ ≡ written x plan
+      → PlansIn r search plan a search′ plan′
+  plans-by x a plan′ e b w = record { result = b ∙ ap countOf (sym e); search-left = clear; plan-left = w ∙ ap (λ (y : Result (List ℕ)). written y plan) (sym e) }
+
+  -- 11
+  pub plans-none : planFor (networkOf r) ≡ none → PlansIn r search plan (Refused 11 0) search′ plan
+  plans-none e = plans-by (refused 11 0) (Refused 11 0) plan (planned-none (networkOf r) (length plan) e) refl refl
+
+  pub plans-given : (p : Plan) → planFor (networkOf r) ≡ some p → (a : Planned) (plan′ : List ℕ) → Given (writePlan p) plan a plan′ → PlansIn r search plan a search′ plan′
+  plans-given p e a plan′ g = plans-by (ifRoom (length plan) (writePlan p)) a plan′ (planned-some (networkOf r) (length plan) p e) (g .result) (g .left)
+
+-- ---- the whole call
+
+-- the answer, the search space and the plan buffer are the model's
+abbrev pub Makes : Bytes → List ℕ → List ℕ → Planned → List ℕ → List ℕ → Type 0
+Makes n search plan a search′ plan′ =
+    (answerOf a ≡ makePlan n search plan .result) × ((search′ ≡ makePlan n search plan .search) × (plan′ ≡ makePlan n search plan .plan))
+
+module _ (n : Bytes) (search plan : List ℕ) where
+  makes-by : (x : Result ModelNetwork) → searchable n (length search) ≡ x
+      → makePlan n search plan ≡ record { result = countOf (planned x (length plan)); search = cleared x search; plan = written (planned x (length plan)) plan }
+  unfolding makePlan
+  makes-by x e = rw e
+
+  makes-refused : (number place : ℕ) → searchable n (length search) ≡ refused number place → Makes n search plan (Refused number place) search plan
+  makes-refused number place e =
+      let m = makes-by (refused number place) e in
+      (sym (ap (λ (y : PlanAnswer). y .result) m), (sym (ap (λ (y : PlanAnswer). y .search) m), sym (ap (λ (y : PlanAnswer). y .plan) m)))
+
+  pub network-refused : (number place : ℕ) → readNetwork n ≡ refused number place → Makes n search plan (Refused number place) search plan
+  unfolding searchable
+  network-refused number place e = makes-refused number place (rw e)
+
+  module _ (net : ModelNetwork) (reads : readNetwork n ≡ ok net) (k : ℕ) (count : k ≡ length (steeringBits (net .nodes))) where
+    pub too-many : 6 < k → Makes n search plan (Refused 10 k) search plan
+    unfolding searchable
+    too-many h = makes-refused 10 k (rw (reads, lt-ltb 6 (length (steeringBits (net .nodes))) (omega arith)) (ap (refused 10) (sym count)))
+
+    module _ (few : k ≤ 6) where
+      pub too-short : length search < 11664 → Makes n search plan (Refused 12 11664) search plan
+      unfolding searchable searchEntries
+      too-short h = makes-refused 12 11664 (rw (reads, le-ltb 6 (length (steeringBits (net .nodes))) (omega arith)) (rw (lt-ltb (length search) 11664 h)))
+
+      pub searched : (r : Network) (a : Planned) (search′ plan′ : List ℕ) → networkOf r ≡ net → 11664 ≤ length search → PlansIn r search plan a search′ plan′ → Makes n search plan a search′ plan′
+      unfolding searchable searchEntries
+      searched r a search′ plan′ e h p =
+          let m = makes-by (ok net) (rw (reads, le-ltb 6 (length (steeringBits (net .nodes))) (omega arith)) (rw (le-ltb (length search) 11664 h))) in (
+            p .result ∙ ap (λ (w : ModelNetwork). countOf (planned (ok w) (length plan))) e ∙ sym (ap (λ (y : PlanAnswer). y .result) m),
+            (p .search-left ∙ sym (ap (λ (y : PlanAnswer). y .search) m), p .plan-left ∙ ap (λ (w : ModelNetwork). written (planned (ok w) (length plan)) plan) e ∙ sym (ap (λ (y : PlanAnswer). y .plan) m)),
+          )

@@ -1,0 +1,74 @@
+-- Laws for the caller that has a record: what the record gives to the calls of this crate, and what they give for its network.
+-- Assumes nothing.
+use mathlib.Core.Path.{_≡_, refl, sym, ap, _∙_, subst}
+use mathlib.Core.List.{List, List·Memᴰ}
+use Prim.Native.Nat.{ℕ, zero, suc, _≤_, _<_}
+use native.Mathlib.Nat.{not-suc-le-zero}
+use native.Mathlib.Omega.{arith}
+use lib.ListN.{length, getD}
+use Rattle.model.specs.Network.{Node, at, noNode, lenOf, steeringBits}
+use Rattle.model.specs.Path.{bitOf}
+use Rattle.model.proofs.Accepted.{Accepted}
+use Rattle.model.proofs.Lists.{length-tabulate}
+use Rattle.path.specs.Layout.{nodeAt, nodesOf, configOf, lookIn}
+use Rattle.path.proofs.ConfigLaws.{config-bit, at-tabulate, good-most}
+use Rattle.network.specs.declared.reader.Network.{Network}
+use Rattle.network.specs.Draws.{Short}
+use Rattle.network.specs.Reads.{networkOf, Filled}
+use Rattle.search.specs.Settings.{settingOf, numberOf}
+use Rattle.search.specs.Moves.{MoveTable}
+use Rattle.search.specs.NetworkMoves.{MovesOf}
+use Rattle.search.proofs.Steering.{steering-bit}
+use Rattle.search.proofs.SettingNumbers.{setting-same}
+use Rattle.search.proofs.NetworkMoves.{moves-table}
+use Rattle.planner.specs.Settings.{bitsOf, Steered}
+use Rattle.planner.specs.Rows.{Prepared, MovesBuilt}
+
+module _ (r : Network) (filled : Filled r) (accepted : Accepted (networkOf r)) (few : r .«steering_count» ≤ 6) where
+  record-length : length (nodesOf (r .nodes) (r .tally .count)) ≡ r .tally .count
+  record-length = length-tabulate (nodeAt (r .nodes)) 1 (r .tally .count)
+
+  record-node : (s : ℕ) → 1 ≤ s → s ≤ r .tally .count → at (nodesOf (r .nodes) (r .tally .count)) s noNode ≡ nodeAt (r .nodes) s
+  record-node s a b = at-tabulate (nodeAt (r .nodes)) (r .tally .count) s noNode a b
+
+  record-short : Short (r .nodes) (r .tally .count)
+  record-short zero a b = absurd (not-suc-le-zero a)
+  record-short (suc n) a b =
+      subst (λ (nd : Node). lenOf nd ≤ 32) (record-node (suc n) a b)
+      (good-most (nodesOf (r .nodes) (r .tally .count)) (suc n) (getD (nodesOf (r .nodes) (r .tally .count)) n noNode) (accepted .wf .backwards n (omega (arith, record-length))))
+
+  -- what `list_steering` asks
+  pub record-steered : Steered (r .nodes) (r .steering) (r .tally .count)
+  record-steered = record { most = filled .tame .nodes-fit; short = record-short; steering-is = filled .steering-is; few = omega (arith, filled .counted) }
+
+  module _ (segments places : List ℕ) (k : ℕ) (lists : bitsOf segments places k ≡ steeringBits (nodesOf (r .nodes) (r .tally .count))) (small : k ≤ 6) where
+    -- what the other calls ask, with what `list_steering` tells
+    pub record-planned : Prepared (networkOf r) (r .nodes) (r .tally) segments places k
+    record-planned = record {
+      stored = record { nodes = refl; feeds = refl; most = filled .tame .nodes-fit; formed = accepted .wf };
+      accepted = accepted;
+      targets-are = refl;
+      tame = filled .tame;
+      bits-are = lists;
+      few = small;
+    }
+
+    -- the start's setting, as `setting_number` tells it
+    pub record-number : (n : ℕ) → n ≡ settingOf (bitsOf segments places k) (lookIn (r .bits) (r .known)) → n ≡ numberOf (networkOf r) (networkOf r .start)
+    record-number n e =
+        e ∙ ap (λ (l : List (ℕ × ℕ)). settingOf l (lookIn (r .bits) (r .known))) lists
+        ∙ sym (setting-same (steeringBits (nodesOf (r .nodes) (r .tally .count))) (bitOf (configOf (r .nodes) (r .bits) (r .known) (r .tally .count))) (lookIn (r .bits) (r .known)) same)
+      where
+        same : (q : ℕ × ℕ) → List·Memᴰ q (steeringBits (nodesOf (r .nodes) (r .tally .count)))
+            → bitOf (configOf (r .nodes) (r .bits) (r .known) (r .tally .count)) (q .0) (q .1) ≡ lookIn (r .bits) (r .known) (q .0) (q .1)
+        same q m =
+            let b = steering-bit (nodesOf (r .nodes) (r .tally .count)) q m in
+            let most : q .0 ≤ r .tally .count = omega (arith, b .most, record-length) in
+            config-bit (r .nodes) (r .bits) (r .known) (r .tally .count) (q .0) (q .1) (b .least) most (subst (λ (nd : Node). q .1 < lenOf nd) (record-node (q .0) (b .least) most) (b .inside))
+
+    -- the table, as `build_moves` leaves it
+    pub record-moves : (mv : List ℕ) → MovesBuilt (r .nodes) (r .tally) segments places k mv → MovesOf (networkOf r) mv
+    record-moves mv m = m (networkOf r) record-planned
+
+    pub record-table : (mv : List ℕ) → MovesBuilt (r .nodes) (r .tally) segments places k mv → MoveTable mv
+    record-table mv m = moves-table (networkOf r) accepted (omega (arith, filled .counted)) mv (record-moves mv m)

@@ -1,0 +1,26 @@
+-- What the planner's call answers and leaves.
+-- Assumes nothing.
+use mathlib.Core.Path.{_≡_}
+use mathlib.Core.List.{List}
+use Prim.Native.Nat.{ℕ, _≤_}
+use lib.ListN.{length, replicate}
+use Rattle.model.specs.Result.{ok}
+use Rattle.model.specs.Calls.{writeOver, written, countOf, searchEntries, planned}
+use Rattle.model.proofs.Accepted.{Accepted}
+use Rattle.network.specs.declared.reader.Network.{Network}
+use Rattle.network.specs.Reads.{networkOf, Filled}
+use Rattle.planner.specs.declared.writer.Planned.{Planned}
+use Rattle.planner.specs.Writing.{answerOf}
+
+-- an accepted network that came past the checks 10 and 12
+pub record Searchable (r : Network) (search : List ℕ) : Type 0 where
+  pub filled : Filled r
+  pub accepted : Accepted (networkOf r)
+  pub few : r .«steering_count» ≤ 6
+  pub enough : 11664 ≤ length search
+
+-- the answer to it, the search space and the plan buffer
+pub record PlansIn (r : Network) (search plan : List ℕ) (a : Planned) (search′ plan′ : List ℕ) : Type 0 where
+  pub result : answerOf a ≡ countOf (planned (ok (networkOf r)) (length plan))
+  pub search-left : search′ ≡ writeOver (replicate searchEntries 0) search
+  pub plan-left : plan′ ≡ written (planned (ok (networkOf r)) (length plan)) plan

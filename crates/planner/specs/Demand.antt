@@ -1,0 +1,59 @@
+-- Demand 3 of the call `make_plan`: statements about whatever it returns and leaves by its contract. proofs/Demand.antt proves them
+-- from the model's theorems.
+-- Assumes nothing.
+use mathlib.Core.Path.{_≡_}
+use mathlib.Core.Logic.{_↔_}
+use mathlib.Core.List.{List}
+use Prim.Native.Nat.{ℕ, _≤_, _<_}
+use lib.ListN.{length, take}
+use Rattle.model.specs.Result.{ok}
+use Rattle.model.specs.Text.{Bytes}
+use Rattle.model.specs.Network.{Network, steeringBits}
+use Rattle.model.specs.Plan.{Plan, ValidPlan, Named}
+use Rattle.model.specs.NetworkText.{readNetwork}
+use Rattle.model.specs.PlanText.{readPlan}
+use Rattle.model.specs.Calls.{makePlan}
+use Rattle.marker.specs.declared.targets.Mark.{Mark}
+use Rattle.marker.specs.declared.targets.Verdict.the-variants.{Pass}
+use Rattle.marker.specs.Demand.{Marked}
+use Rattle.planner.specs.declared.writer.Planned.{Planned}
+use Rattle.planner.specs.declared.writer.Planned.the-variants.{Written, Refused}
+use Rattle.planner.specs.Writing.{answerOf}
+
+-- the contract: `make_plan` returned a, and left the search space as search′ and the plan buffer as plan′
+pub record MadePlan (n : Bytes) (search plan : List ℕ) (a : Planned) (search′ plan′ : List ℕ) : Type 0 where
+  pub result : answerOf a ≡ makePlan n search plan .result
+  pub search-left : search′ ≡ makePlan n search plan .search
+  pub plan-left : plan′ ≡ makePlan n search plan .plan
+
+-- "it writes a plan that passes, and no valid plan has fewer operations"; it is the plan that document 01 names
+pub record PlanWritten (n : Bytes) (net : Network) (text : Bytes) : Type 0 where
+  pub plan : Plan
+  pub reads : readPlan text ≡ ok plan
+  -- `mark` passes it, whatever it returns by its contract
+  pub passes : (m : Mark) → Marked n text m → (lines clocks : ℕ) × (m .verdict ≡ Pass lines clocks)
+  pub fewest : (other : Plan) → ValidPlan net other → length plan ≤ length other
+  pub named : Named net plan
+
+-- the two answers with the full sizes lent
+pub data Outcome (n : Bytes) (net : Network) (a : Planned) (plan′ : List ℕ) : Type 0 where
+  no-plan : a ≡ Refused 11 0 → Outcome n net a plan′
+  a-plan : (count : ℕ) → a ≡ Written count → PlanWritten n net (take count plan′) → Outcome n net a plan′
+
+-- "With document 01's buffer sizes lent and at most 6 steering bits, the planner refuses with 11 exactly when no valid plan of
+-- at most 16 operations exists; otherwise it writes a plan .."
+pub record Exact (n : Bytes) (net : Network) (a : Planned) (plan′ : List ℕ) : Type 0 where
+  pub none-exactly : (a ≡ Refused 11 0) ↔ ((other : Plan) → ValidPlan net other → 16 < length other)
+  pub outcome : Outcome n net a plan′
+
+abbrev pub PlansExactly : Type 0
+PlansExactly = (n : Bytes) (net : Network) (search plan : List ℕ) (a : Planned) (search′ plan′ : List ℕ) → MadePlan n search plan a search′ plan′
+    → readNetwork n ≡ ok net → length (steeringBits (net .nodes)) ≤ 6 → 11664 ≤ length search → 64080 ≤ length plan → Exact n net a plan′
+
+-- 12 and 13 only where too little is lent
+pub record TooLittleLent (search plan : List ℕ) (a : Planned) : Type 0 where
+  pub twelve : (place : ℕ) → a ≡ Refused 12 place → (place ≡ 11664) × (length search < 11664)
+  pub thirteen : (place : ℕ) → a ≡ Refused 13 place → (length plan < place) × (place ≤ 64080)
+
+abbrev pub RefusesOnlyShort : Type 0
+RefusesOnlyShort = (n : Bytes) (search plan : List ℕ) (a : Planned) (search′ plan′ : List ℕ) → MadePlan n search plan a search′ plan′ → TooLittleLent search plan a
