@@ -36,11 +36,16 @@ pub fn put_number(n: usize) {
     io::print_decimal(STDOUT_FILENO, n as u64);
 }
 
-// A line's end. Where it can't be written, a message says so.
-pub fn end_line() {
-    if !io::write_all(STDOUT_FILENO, b"\n") {
+// Bytes that end a line, or none. Where they can't be written, a message says so.
+pub fn put_lines(lines: &[u8]) {
+    if !io::write_all(STDOUT_FILENO, lines) {
         os::fail(b"standard output");
     }
+}
+
+// A line's end.
+pub fn end_line() {
+    put_lines(b"\n");
 }
 
 // The line of a refusal.

@@ -15,6 +15,11 @@ fn mark(title: &[u8], network: &[u8], plan: &[u8]) {
     printed::mark::show(network, plan);
 }
 
+fn plan(title: &[u8], network: &[u8]) {
+    put_title(title, b": plan");
+    printed::plan::show(network);
+}
+
 fn clock(title: &[u8], plan: &[u8]) {
     put_title(title, b": clock");
     printed::clocks::show(plan);
@@ -28,9 +33,10 @@ fn refuse(title: &[u8], network: &[u8]) {
 
 fn network_a() {
     let a = b"seg\t0\t4\ts\nmux\t3\t0\t0\t1\nseg\t2\t1\ts\nout\t3\nwrite\t1\t1010\n";
-    let plan = b"csu\t1\ncsu\t00101\n";
-    mark(b"A", a, plan);
-    clock(b"A", plan);
+    let lines = b"csu\t1\ncsu\t00101\n";
+    plan(b"A", a);
+    mark(b"A", a, lines);
+    clock(b"A", lines);
     mark(b"A, second line csu 0010", a, b"csu\t1\ncsu\t0010\n");
 }
 
@@ -53,11 +59,13 @@ fn changed_a() {
 fn network_b() {
     let b =
         b"seg\t0\t2\ts\nseg\t0\t2\ts\nmux\t4\t0\t1\t2\nseg\t3\t1\ts\nout\t4\nread\t1\nread\t2\n";
+    plan(b"B", b);
     mark(b"B", b, b"csu\t100\ncsu\t000\n");
 }
 
 fn network_c() {
     let c = b"seg\t0\t1\ts\nseg\t1\t4\ts\nmux\t1\t0\t0\t2\nout\t3\nread\t2\n";
+    plan(b"C", c);
     mark(b"C, csu with no bits", c, b"csu\t\n");
 }
 
@@ -69,6 +77,7 @@ fn network_d() {
 
 fn edges() {
     refuse(b"empty text", b"");
+    plan(b"out 0", b"out\t0\n");
     mark(b"out 0, the empty plan", b"out\t0\n", b"");
     read(b"LEN 32", b"seg\t0\t32\ts\nout\t1\n");
     refuse(b"LEN 33", b"seg\t0\t33\ts\nout\t1\n");

@@ -1,2 +1,3 @@
 -- Laws of the printed lines.
 pub mod PlanLines
+pub mod PlanRoom
