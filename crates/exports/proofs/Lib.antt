@@ -1,4 +1,4 @@
 -- Laws of the answers as numbers.
 pub mod Answers
 pub mod Marked
-pub mod Clocked
+pub mod Counted

@@ -27,7 +27,7 @@ abbrev pub markNumbers : Result Pass → List ℕ
 markNumbers (ok pass) = padded 16 (0 ∷ pass .operations ∷ pass .clocks ∷ length (pass .gots) ∷ gotNumbers (pass .gots))
 markNumbers (refused number place) = padded 16 (number ∷ place ∷ [])
 
--- 0 and the count of clocks written, or number and place of a refusal
-abbrev pub clockNumbers : Result ℕ → List ℕ
-clockNumbers (ok count) = 0 ∷ count ∷ []
-clockNumbers (refused number place) = number ∷ place ∷ []
+-- 0 and the count of what was written, clocks or bytes, or number and place of a refusal
+abbrev pub countNumbers : Result ℕ → List ℕ
+countNumbers (ok count) = 0 ∷ count ∷ []
+countNumbers (refused number place) = number ∷ place ∷ []

@@ -3,13 +3,15 @@ use marker::mark;
 use marker::targets::Verdict as Judgement;
 use network::reader::Verdict;
 use network::reader::read_network;
+use planner::make_plan;
+use planner::writer::Planned;
 use tap::Written;
 use tap::write_clocks;
 ghost use mathlib.Core.Path.{_≡_};
-ghost use Rattle.model.specs.Calls.{writeClocks};
+ghost use Rattle.model.specs.Calls.{writeClocks, makePlan};
 ghost use Rattle.model.specs.Mark.{mark as markOfTexts};
 ghost use Rattle.model.specs.NetworkText.{readNetwork};
-ghost use Rattle.exports.specs.Numbers.{readNumbers, markNumbers, clockNumbers};
+ghost use Rattle.exports.specs.Numbers.{readNumbers, markNumbers, countNumbers};
 
 // Reads a network text. answer takes 0 and the counts of nodes, segment bits, distinct steering bits and bits of the start's
 // path; or a refusal's number and place, and three zeros.
@@ -80,7 +82,7 @@ pub extern "C" fn penthluk_clocks(
     tdi: &mut [u8],
     answer: &mut [usize; 2],
 )
-    ensures { λ _. ⌜ now (answer .exit) ≡ clockNumbers (writeClocks (now (plan .entry)) (now (tms .entry)) (now (tdi .entry)) .result) ⌝ }
+    ensures { λ _. ⌜ now (answer .exit) ≡ countNumbers (writeClocks (now (plan .entry)) (now (tms .entry)) (now (tdi .entry)) .result) ⌝ }
     ensures { λ _. ⌜ now (tms .exit) ≡ writeClocks (now (plan .entry)) (now (tms .entry)) (now (tdi .entry)) .tms ⌝ }
     ensures { λ _. ⌜ now (tdi .exit) ≡ writeClocks (now (plan .entry)) (now (tms .entry)) (now (tdi .entry)) .tdi ⌝ }
 {
@@ -90,6 +92,29 @@ pub extern "C" fn penthluk_clocks(
             *answer = [0, count];
         }
         Written::Refused(number, place) => {
+            *answer = [number, place];
+        }
+    }
+}
+
+// Writes the plan of a network text to the front of plan. answer takes 0 and the count of bytes, or a refusal's number and place.
+#[no_mangle]
+pub extern "C" fn penthluk_plan(
+    network: &[u8],
+    search: &mut [u16],
+    plan: &mut [u8],
+    answer: &mut [usize; 2],
+)
+    ensures { λ _. ⌜ now (answer .exit) ≡ countNumbers (makePlan (now (network .entry)) (now (search .entry)) (now (plan .entry)) .result) ⌝ }
+    ensures { λ _. ⌜ now (search .exit) ≡ makePlan (now (network .entry)) (now (search .entry)) (now (plan .entry)) .search ⌝ }
+    ensures { λ _. ⌜ now (plan .exit) ≡ makePlan (now (network .entry)) (now (search .entry)) (now (plan .entry)) .plan ⌝ }
+{
+    let planned = make_plan(network, search, plan);
+    match planned {
+        Planned::Written(bytes) => {
+            *answer = [0, bytes];
+        }
+        Planned::Refused(number, place) => {
             *answer = [number, place];
         }
     }

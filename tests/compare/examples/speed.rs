@@ -4,11 +4,15 @@
 use std::hint::black_box;
 use std::time::{Duration, Instant};
 
-use penthluk_compare::expected::{clock_numbers, mark_numbers};
-use penthluk_compare::{clocks, mark, read, read_line};
+use penthluk_compare::expected::{count_numbers, mark_numbers};
+use penthluk_compare::{clocks, mark, plan, read, read_line};
 use penthluk_reference::clocks::write_clocks;
 use penthluk_reference::generate::edges::plan_line;
+use penthluk_reference::generate::large::full;
+use penthluk_reference::generate::rounds::many_rounds;
+use penthluk_reference::limits::{MAX_PLAN_BYTES, SEARCH_ENTRIES};
 use penthluk_reference::marker;
+use penthluk_reference::planner::make_plan;
 use penthluk_reference::programs;
 use penthluk_reference::reader::read_network;
 
@@ -101,6 +105,20 @@ fn longest_plan() -> Vec<u8> {
     format!("csu\t{bits}\n").repeat(16).into_bytes()
 }
 
+/// Six SIBs in a row, each with a register of 32 bits; four registers are targets.
+fn sib_chain() -> Vec<u8> {
+    let mut text = String::new();
+    for sib in 0..6 {
+        let from = 3 * sib;
+        let (register, multiplexer, bit) = (from + 1, from + 2, from + 3);
+        text += &format!("seg\t{from}\t32\ts\nmux\t{bit}\t0\t{from}\t{register}\n");
+        text += &format!("seg\t{multiplexer}\t1\ts\n");
+    }
+    let ones = "1".repeat(32);
+    text += &format!("out\t18\nread\t1\nwrite\t4\t{ones}\nread\t10\nwrite\t16\t{ones}\n");
+    text.into_bytes()
+}
+
 fn readings() {
     for (name, text) in [
         ("read, 125 segments of 32 bits, all held", most_bits()),
@@ -139,7 +157,7 @@ fn clock_writings() {
         let [mut tms, mut tdi, mut plain_tms, mut plain_tdi] = [(); 4].map(|_| vec![0; plan.len()]);
         let numbers = clocks(&plan, &mut tms, &mut tdi);
         let expected = write_clocks(&plan, &mut plain_tms, &mut plain_tdi);
-        assert_eq!(numbers, clock_numbers(&expected));
+        assert_eq!(numbers, count_numbers(&expected));
         assert!(tms == plain_tms && tdi == plain_tdi);
         let proved = || _ = black_box(clocks(black_box(&plan), &mut tms, &mut tdi));
         let plain =
@@ -148,8 +166,33 @@ fn clock_writings() {
     }
 }
 
+/// The memory is lent again and again and not cleared in between.
+fn plans() {
+    for (name, network) in [
+        (
+            "plan, 16 operations of 3,000 bits, 6 steering bits, 4 targets, 128 nodes",
+            many_rounds().text(),
+        ),
+        ("plan, 4,000 bits, 6 steering bits, 4 targets, 128 nodes", full().text()),
+        ("plan, a chain of 6 SIBs, 4 targets", sib_chain()),
+        ("plan, the empty one of `out 0`", b"out\t0\n".to_vec()),
+    ] {
+        let [mut search, mut plain_search] = [(); 2].map(|_| vec![0; SEARCH_ENTRIES]);
+        let [mut bytes, mut plain_bytes] = [(); 2].map(|_| vec![0; MAX_PLAN_BYTES]);
+        let numbers = plan(&network, &mut search, &mut bytes);
+        let expected = make_plan(&network, &mut plain_search, &mut plain_bytes);
+        assert_eq!(numbers, count_numbers(&expected));
+        assert!(numbers[0] == 0 && bytes == plain_bytes, "{name}");
+        let proved = || _ = black_box(plan(black_box(&network), &mut search, &mut bytes));
+        let plain =
+            || _ = black_box(make_plan(black_box(&network), &mut plain_search, &mut plain_bytes));
+        compare(name, network.len() + numbers[1], proved, plain);
+    }
+}
+
 fn main() {
     readings();
     marks();
     clock_writings();
+    plans();
 }

@@ -1,6 +1,6 @@
 //! The plain Rust version's answers as the numbers that the proved calls give.
 
-use penthluk_reference::marker::Pass;
+use penthluk_reference::marker::{Got, Pass};
 use penthluk_reference::refusal::Refusal;
 
 /// The numbers of a mark.
@@ -17,8 +17,15 @@ pub fn mark_numbers(result: &Result<Pass, Refusal>) -> [usize; 16] {
     numbers.try_into().expect("a network has at most four targets")
 }
 
-/// The numbers of the clock writer's answer.
-pub fn clock_numbers(result: &Result<usize, Refusal>) -> [usize; 2] {
+/// The pass that the numbers of a mark stand for, if it is one.
+pub fn passed(numbers: &[usize; 16]) -> Option<Pass> {
+    let [0, operations, clocks, rows, ..] = *numbers else { return None };
+    let row = |row: &[usize]| Got { target: row[0], operation: row[1], place: row[2] };
+    Some(Pass { operations, clocks, gots: numbers[4..].chunks(3).take(rows).map(row).collect() })
+}
+
+/// The numbers of the clock writer's or the planner's answer.
+pub fn count_numbers(result: &Result<usize, Refusal>) -> [usize; 2] {
     match result {
         Ok(count) => [0, *count],
         Err(refusal) => refusal_numbers(refusal),

@@ -1,6 +1,7 @@
 //! The proved calls, through the static library of the crate `exports`.
 
 pub mod expected;
+pub mod lent;
 
 extern "C" {
     /// `pub extern "C" fn penthluk_read(text: &[u8], answer: &mut [usize; 5])`
@@ -23,6 +24,17 @@ extern "C" {
         tms_length: usize,
         tdi: *mut u8,
         tdi_length: usize,
+        answer: *mut usize,
+    );
+
+    /// `pub extern "C" fn penthluk_plan(network: &[u8], search: &mut [u16], plan: &mut [u8], answer: &mut [usize; 2])`
+    fn penthluk_plan(
+        network: *const u8,
+        network_length: usize,
+        search: *mut u16,
+        search_length: usize,
+        plan: *mut u8,
+        plan_length: usize,
         answer: *mut usize,
     );
 }
@@ -68,6 +80,26 @@ pub fn clocks(plan: &[u8], tms: &mut [u8], tdi: &mut [u8]) -> [usize; 2] {
             tms.len(),
             tdi.as_mut_ptr(),
             tdi.len(),
+            answer.as_mut_ptr(),
+        )
+    };
+    answer
+}
+
+/// Writes the plan of a network text to the front of `plan`. 0 and the count of its bytes, or number
+/// and place of a refusal.
+pub fn plan(network: &[u8], search: &mut [u16], plan: &mut [u8]) -> [usize; 2] {
+    let mut answer = [UNWRITTEN; 2];
+    // SAFETY: the call has no `requires`; it reads the network and writes within the two slices,
+    // which do not overlap, and the two numbers.
+    unsafe {
+        penthluk_plan(
+            network.as_ptr(),
+            network.len(),
+            search.as_mut_ptr(),
+            search.len(),
+            plan.as_mut_ptr(),
+            plan.len(),
             answer.as_mut_ptr(),
         )
     };

@@ -1,7 +1,8 @@
 //! The proved clock writer answers as the plain Rust version does and leaves the same bytes in both
 //! buffers, written or not.
 
-use penthluk_compare::expected::clock_numbers;
+use penthluk_compare::expected::{count_numbers, passed};
+use penthluk_compare::lent::Lent;
 use penthluk_compare::{clocks, mark};
 use penthluk_reference::clocks::write_clocks;
 use penthluk_reference::generate::cases::{case, draw_network, draw_plan};
@@ -11,31 +12,9 @@ use penthluk_reference::generate::plan_damage::{damage_plan, PLAN_FAULTS};
 use penthluk_reference::generate::plans::wander;
 use penthluk_reference::generate::random::Random;
 use penthluk_reference::limits::{MAX_OPERATIONS, MAX_PLAN_BYTES};
-use penthluk_reference::marker::{Got, Pass};
 use penthluk_reference::plan_text::write_plan;
 use penthluk_reference::play::check_pass;
 use penthluk_reference::reader::read_network;
-
-/// Bytes around a lent buffer, which never change.
-const MARGIN: usize = 64;
-
-/// A buffer within a longer one. Its bytes are neither `0` nor `1`.
-#[derive(Clone, PartialEq, Eq)]
-struct Lent {
-    all: Vec<u8>,
-    length: usize,
-}
-
-impl Lent {
-    fn new(length: usize) -> Lent {
-        let all = (0..length + 2 * MARGIN).map(|index| 128 + (index % 101) as u8).collect();
-        Lent { all, length }
-    }
-
-    fn buffer(&mut self) -> &mut [u8] {
-        &mut self.all[MARGIN..MARGIN + self.length]
-    }
-}
 
 /// How often each number came; 0 is success.
 #[derive(Default, Debug)]
@@ -45,16 +24,19 @@ impl Counts {
     /// Calls both with buffers of these lengths and compares the answers and all bytes.
     #[track_caller]
     fn compare(&mut self, plan: &[u8], tms_length: usize, tdi_length: usize) -> [usize; 2] {
-        let (mut tms, mut tdi) = (Lent::new(tms_length), Lent::new(tdi_length));
+        let (mut tms, mut tdi) = (Lent::bytes(tms_length), Lent::bytes(tdi_length));
         let (mut plain_tms, mut plain_tdi) = (tms.clone(), tdi.clone());
         let answer = clocks(plan, tms.buffer(), tdi.buffer());
         let expected = write_clocks(plan, plain_tms.buffer(), plain_tdi.buffer());
         let lengths = (plan.len(), tms_length, tdi_length);
-        assert_eq!(answer, clock_numbers(&expected), "{lengths:?}");
+        assert_eq!(answer, count_numbers(&expected), "{lengths:?}");
         assert!(tms == plain_tms, "TMS {lengths:?}");
         assert!(tdi == plain_tdi, "TDI {lengths:?}");
         if answer[0] != 0 {
-            assert!(tms == Lent::new(tms_length) && tdi == Lent::new(tdi_length), "{lengths:?}");
+            assert!(
+                tms == Lent::bytes(tms_length) && tdi == Lent::bytes(tdi_length),
+                "{lengths:?}"
+            );
         }
         self.0[answer[0]] += 1;
         answer
@@ -154,19 +136,11 @@ fn passed_plans() {
         let text = draw_network(random).text();
         let Ok(network) = read_network(&text) else { continue };
         let plan = write_plan(&draw_plan(random, &network));
-        let marked = mark(&text, &plan);
-        let [0, operations, number_of_clocks, rows, ..] = marked else { continue };
-        assert_eq!(counts.compare(&plan, MAX_PLAN_BYTES, MAX_PLAN_BYTES), [0, number_of_clocks]);
-        let pass = Pass { operations, clocks: number_of_clocks, gots: gots(&marked) };
+        let Some(pass) = passed(&mark(&text, &plan)) else { continue };
+        assert_eq!(counts.compare(&plan, MAX_PLAN_BYTES, MAX_PLAN_BYTES), [0, pass.clocks]);
         assert_eq!(check_pass(&network, &plan, &pass, &mut || random.bit()), Ok(()));
-        with_rows += usize::from(rows > 0);
+        with_rows += usize::from(!pass.gots.is_empty());
     }
     counts.at_least([4_000, 0, 0]);
     assert!(with_rows >= 2_000, "{with_rows}");
-}
-
-/// The `got` rows among the numbers of a pass.
-fn gots(numbers: &[usize; 16]) -> Vec<Got> {
-    let rows = numbers[4..].chunks(3).take(numbers[3]);
-    rows.map(|row| Got { target: row[0], operation: row[1], place: row[2] }).collect()
 }

@@ -12,6 +12,7 @@ pub mod near;
 pub mod plan_damage;
 pub mod plans;
 pub mod random;
+pub mod rounds;
 pub mod sib;
 pub mod tiny;
 pub mod unknown;

@@ -7,11 +7,13 @@ use penthluk_reference::generate::cases::draw_network;
 use penthluk_reference::generate::large::{full, large};
 use penthluk_reference::generate::maze::gray;
 use penthluk_reference::generate::random::Random;
-use penthluk_reference::limits::MAX_OPERATIONS;
+use penthluk_reference::generate::rounds::many_rounds;
+use penthluk_reference::limits::{MAX_NODES, MAX_OPERATIONS, MAX_STEERING_BITS, MAX_TARGETS};
 use penthluk_reference::marker::{mark, Pass};
 use penthluk_reference::play::check_pass;
 use penthluk_reference::reader::read_network;
 use penthluk_reference::refusal::{NO_PLAN, STEERING_COUNT};
+use penthluk_reference::steering::steering_bits;
 
 /// Marks and plays the planner's plan, with several draws of all free bits.
 fn check_planned(network_text: &[u8], random: &mut Random) -> Option<Pass> {
@@ -59,6 +61,18 @@ fn large_networks() {
     }
     assert!(passes > 20, "{passes}");
     assert!(check_planned(&full().text(), random).is_some());
+}
+
+/// The network with much to search is at all limits of the planner but that of bits.
+#[test]
+fn many_rounds_of_search() {
+    let text = many_rounds().text();
+    let network = read_network(&text).expect("it is sound");
+    assert_eq!(network.nodes.len(), MAX_NODES);
+    assert_eq!(network.targets.len(), MAX_TARGETS);
+    assert_eq!(steering_bits(&network.nodes).len(), MAX_STEERING_BITS);
+    let pass = check_planned(&text, &mut Random::new(104)).expect("there is a plan");
+    assert_eq!(pass.operations, MAX_OPERATIONS);
 }
 
 #[test]

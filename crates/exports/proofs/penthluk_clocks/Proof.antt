@@ -1,6 +1,7 @@
 -- `exports::penthluk_clocks` meets its contract: the numbers by the answer, the buffers as the clock writer leaves them.
 -- Assumes nothing.
-use Rattle.exports.proofs.Clocked.{count-numbers, refusal-numbers}
+use Rattle.tap.specs.Clocks.{answerOf}
+use Rattle.exports.proofs.Counted.{by-answer}
 use borrow.Author.Needs.{needs}
 use Rattle.exports.proofs.penthluk_clocks.Statement.{statement}
 use Rattle.exports.proofs.penthluk_clocks.Tie as tie
@@ -23,7 +24,7 @@ same-length-2 c = search needs
 returns : tie.Need-returns
 returns c =
     let w = c .before .before .before .before .before .before .before .before .write-clocks in
-    (count-numbers _ _ (w .ensures .0) _ (c .before .before .written .given .1), w .ensures .1)
+    (by-answer answerOf _ _ (w .ensures .0) _ (c .before .before .written .given .1), w .ensures .1)
 
 same-length-3 : tie.Need-same-length-3
 same-length-3 c = search needs
@@ -34,7 +35,7 @@ same-length-4 c = search needs
 returns-2 : tie.Need-returns-2
 returns-2 c =
     let w = c .before .before .before .before .before .before .before .before .write-clocks in
-    (refusal-numbers _ _ (w .ensures .0) _ _ (c .before .before .written2 .given .1), w .ensures .1)
+    (by-answer answerOf _ _ (w .ensures .0) _ (c .before .before .written2 .given .1), w .ensures .1)
 
 pub penthluk-clocks-spec : {M : Type 1} → statement M
 penthluk-clocks-spec =

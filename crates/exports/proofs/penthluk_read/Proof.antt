@@ -20,11 +20,18 @@ enum-known-verdict c = search needs
 
 -- src/lib.rt:9:1
 returns : tie.Need-returns
-returns c = accepted-numbers (c .before .before .before .before .before .before .args .text .now) (c .before .before .before .before .read-network .result) (c .before .before .before .before .read-network .ensures) (c .before .enum-told .given .1)
+returns c =
+    let at-read-network = c .before .before .before .before in
+    let at-start = at-read-network .before .before in
+    accepted-numbers (at-start .args .text .now) (at-read-network .read-network .result) (at-read-network .read-network .ensures) (c .before .enum-told .given .1)
 
 -- src/lib.rt:9:1
 returns-2 : tie.Need-returns-2
-returns-2 c = refused-numbers (c .before .before .before .before .before .before .before .args .text .now) (c .before .before .before .before .before .read-network .result) (c .before .before .before .before .before .read-network .ensures) _ _ (c .before .before .verdict .given .1)
+returns-2 c =
+    let at-verdict = c .before .before in
+    let at-read-network = at-verdict .before .before .before in
+    let at-start = at-read-network .before .before in
+    refused-numbers (at-start .args .text .now) (at-read-network .read-network .result) (at-read-network .read-network .ensures) _ _ (at-verdict .verdict .given .1)
 
 pub penthluk-read-spec : {M : Type 1} → statement M
 penthluk-read-spec =

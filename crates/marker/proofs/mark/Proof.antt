@@ -24,9 +24,11 @@ refused-requires c κs = search needs
 
 returns : tie.Need-returns
 returns c =
-    let t = c .before .before .before .before .before .before .before .before in
+    let at-verdict = c .before .before in
+    let at-read-network = at-verdict .before .before .before in
+    let t = at-read-network .before .before .before in
     let e = c .refused .ensures in
-    (ap markOf e ∙ network-refused (t .args .network .now) (t .args .plan .now) _ _ (reading-rejected (t .args .network .now) _ (c .before .before .before .before .before .read-network .ensures) _ _ (c .before .before .verdict .given .1)), rows-refused _ _ _ e)
+    (ap markOf e ∙ network-refused (t .args .network .now) (t .args .plan .now) _ _ (reading-rejected (t .args .network .now) _ (at-read-network .read-network .ensures) _ _ (at-verdict .verdict .given .1)), rows-refused _ _ _ e)
 
 enum-told : tie.Need-enum-told
 enum-told c = search needs
@@ -45,10 +47,13 @@ enum-known-form-2 c = search needs
 
 run-plan-requires : tie.Need-run-plan-requires
 run-plan-requires c κs =
-    let n = c .before .before .before .before .before .before .before .before .before .before .before .before .before .before .before .before in
-    let t = c .before .before .before .before .before .before .before .before .before .before .before .before .before .before .before .before .before .before .before in
-    let r = reading-recorded (t .args .network .now) _ (n .read-network .ensures) (c .before .before .before .before .before .before .before .before .before .before .before .before .before .enum-told .given .1) in
-    let g = form-good (t .args .plan .now) _ _ (c .before .before .before .before .before .before .before .before .before .before .before .before .check-form .ensures) (c .before .before .before .before .before .before .before .before .before .before .«form2» .given .1) in
+    let at-form2 = c .before .before .before .before .before .before .before .before .before .before in
+    let at-check-form = at-form2 .before .before in
+    let at-enum-told = at-check-form .before in
+    let n = at-enum-told .before .before .before in
+    let t = n .before .before .before in
+    let r = reading-recorded (t .args .network .now) _ (n .read-network .ensures) (at-enum-told .enum-told .given .1) in
+    let g = form-good (t .args .plan .now) _ _ (at-check-form .check-form .ensures) (at-form2 .«form2» .given .1) in
     ((g .plan, g .reads), ((_, starts _ (t .args .plan .now) _ r _ g), (record { first-size = length-replicate {A = ℕ} 4 0; places-size = length-replicate {A = ℕ} 4 0 }, reached-none (n .read-network .result .network .tally) (replicate 4 0) (replicate 4 0) (λ i lt. zero-at 4 i))))
 
 enum-known-ran : tie.Need-enum-known-ran
@@ -62,36 +67,54 @@ enum-told-2 c = search needs
 
 judge-requires : tie.Need-judge-requires
 judge-requires c κs =
-    let n = c .before .before .before .before .before .before .before .before .before .before .before .before .before .before .before .before .before .before .before .before .before .before .before .before .before in
-    let t = c .before .before .before .before .before .before .before .before .before .before .before .before .before .before .before .before .before .before .before .before .before .before .before .before .before .before .before .before in
-    let r = reading-recorded (t .args .network .now) _ (n .read-network .ensures) (c .before .before .before .before .before .before .before .before .before .before .before .before .before .before .before .before .before .before .before .before .before .before .enum-told .given .1) in
-    let g = form-good (t .args .plan .now) _ _ (c .before .before .before .before .before .before .before .before .before .before .before .before .before .before .before .before .before .before .before .before .before .check-form .ensures) (c .before .before .before .before .before .before .before .before .before .before .before .before .before .before .before .before .before .before .before .«form2» .given .1) in
-    judgeable _ _ _ r _ g _ _ _ _ _ (c .before .before .before .before .before .before .before .before .run-plan .ensures) (c .before .before .before .before .before .before .«enum-told2» .given .1)
+    let at-enum-told2 = c .before .before .before .before .before .before in
+    let at-run-plan = at-enum-told2 .before .before in
+    let at-form2 = at-run-plan .before .before .before .before .before .before .before .before .before .before .before in
+    let at-check-form = at-form2 .before .before in
+    let at-enum-told = at-check-form .before in
+    let n = at-enum-told .before .before .before in
+    let t = n .before .before .before in
+    let r = reading-recorded (t .args .network .now) _ (n .read-network .ensures) (at-enum-told .enum-told .given .1) in
+    let g = form-good (t .args .plan .now) _ _ (at-check-form .check-form .ensures) (at-form2 .«form2» .given .1) in
+    judgeable _ _ _ r _ g _ _ _ _ _ (at-run-plan .run-plan .ensures) (at-enum-told2 .«enum-told2» .given .1)
 
 returns-2 : tie.Need-returns-2
 returns-2 c =
-    let n = c .before .before .before .before .before .before .before .before in
-    let t = c .before .before .before .before .before .before .before .before .before .before .before in
-    let r = reading-recorded (t .args .network .now) _ (n .read-network .ensures) (c .before .before .before .before .before .enum-told .given .1) in
+    let at-form = c .before .before in
+    let at-check-form = at-form .before .before in
+    let at-enum-told = at-check-form .before in
+    let n = at-enum-told .before .before .before in
+    let t = n .before .before .before in
+    let r = reading-recorded (t .args .network .now) _ (n .read-network .ensures) (at-enum-told .enum-told .given .1) in
     let e = c .«refused2» .ensures in
-    (ap markOf e ∙ plan-refused (t .args .network .now) (t .args .plan .now) _ _ (r .reads) (form-refused (t .args .plan .now) _ _ (c .before .before .before .before .check-form .ensures) (c .before .before .form .given .1)), rows-refused _ _ _ e)
+    (ap markOf e ∙ plan-refused (t .args .network .now) (t .args .plan .now) _ _ (r .reads) (form-refused (t .args .plan .now) _ _ (at-check-form .check-form .ensures) (at-form .form .given .1)), rows-refused _ _ _ e)
 
 returns-3 : tie.Need-returns-3
 returns-3 c =
-    let n = c .before .before .before .before .before .before .before .before .before .before .before .before .before .before .before .before .before .before .before .before .before in
-    let t = c .before .before .before .before .before .before .before .before .before .before .before .before .before .before .before .before .before .before .before .before .before .before .before .before in
-    let r = reading-recorded (t .args .network .now) _ (n .read-network .ensures) (c .before .before .before .before .before .before .before .before .before .before .before .before .before .before .before .before .before .before .enum-told .given .1) in
-    let g = form-good (t .args .plan .now) _ _ (c .before .before .before .before .before .before .before .before .before .before .before .before .before .before .before .before .before .check-form .ensures) (c .before .before .before .before .before .before .before .before .before .before .before .before .before .before .before .«form2» .given .1) in
+    let at-ran = c .before .before in
+    let at-run-plan = at-ran .before .before in
+    let at-form2 = at-run-plan .before .before .before .before .before .before .before .before .before .before .before in
+    let at-check-form = at-form2 .before .before in
+    let at-enum-told = at-check-form .before in
+    let n = at-enum-told .before .before .before in
+    let t = n .before .before .before in
+    let r = reading-recorded (t .args .network .now) _ (n .read-network .ensures) (at-enum-told .enum-told .given .1) in
+    let g = form-good (t .args .plan .now) _ _ (at-check-form .check-form .ensures) (at-form2 .«form2» .given .1) in
     let e = c .«refused3» .ensures in
-    (ap markOf e ∙ run-refused _ _ _ r _ g _ _ _ _ _ (c .before .before .before .before .run-plan .ensures) _ _ (c .before .before .ran .given .1), rows-refused _ _ _ e)
+    (ap markOf e ∙ run-refused _ _ _ r _ g _ _ _ _ _ (at-run-plan .run-plan .ensures) _ _ (at-ran .ran .given .1), rows-refused _ _ _ e)
 
 returns-4 : tie.Need-returns-4
 returns-4 c =
-    let n = c .before .before .before .before .before .before .before .before .before .before .before .before .before .before .before .before .before .before .before .before .before .before .before .before .before .before in
-    let t = c .before .before .before .before .before .before .before .before .before .before .before .before .before .before .before .before .before .before .before .before .before .before .before .before .before .before .before .before .before in
-    let r = reading-recorded (t .args .network .now) _ (n .read-network .ensures) (c .before .before .before .before .before .before .before .before .before .before .before .before .before .before .before .before .before .before .before .before .before .before .before .enum-told .given .1) in
-    let g = form-good (t .args .plan .now) _ _ (c .before .before .before .before .before .before .before .before .before .before .before .before .before .before .before .before .before .before .before .before .before .before .check-form .ensures) (c .before .before .before .before .before .before .before .before .before .before .before .before .before .before .before .before .before .before .before .before .«form2» .given .1) in
-    (judged _ _ _ r _ g _ _ _ _ _ (c .before .before .before .before .before .before .before .before .before .run-plan .ensures) (c .judge .result) (c .before .before .before .before .before .before .before .«enum-told2» .given .1) (c .judge .ensures .0), c .judge .ensures .1)
+    let at-enum-told2 = c .before .before .before .before .before .before .before in
+    let at-run-plan = at-enum-told2 .before .before in
+    let at-form2 = at-run-plan .before .before .before .before .before .before .before .before .before .before .before in
+    let at-check-form = at-form2 .before .before in
+    let at-enum-told = at-check-form .before in
+    let n = at-enum-told .before .before .before in
+    let t = n .before .before .before in
+    let r = reading-recorded (t .args .network .now) _ (n .read-network .ensures) (at-enum-told .enum-told .given .1) in
+    let g = form-good (t .args .plan .now) _ _ (at-check-form .check-form .ensures) (at-form2 .«form2» .given .1) in
+    (judged _ _ _ r _ g _ _ _ _ _ (at-run-plan .run-plan .ensures) (c .judge .result) (at-enum-told2 .«enum-told2» .given .1) (c .judge .ensures .0), c .judge .ensures .1)
 
 pub mark-spec : {M : Type 1} → statement M
 mark-spec =

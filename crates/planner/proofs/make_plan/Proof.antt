@@ -42,8 +42,13 @@ same-length-2 c = search needs
 
 returns-4 : tie.Need-returns-4
 returns-4 c =
-    let r = reading-recorded _ _ (c .before .before .before .before .before .before .before .before .before .before .before .before .before .read-network .ensures) (c .before .before .before .before .before .before .before .before .before .before .enum-told .given .1) in
-    searched _ _ _ _ (r .reads) _ (r .filled .counted) (c .before .before .before .before .before .before .before .before .if1 .left) _ _ _ _ refl (c .before .before .before .before .before .before .before .if2 .left) (c .before .before .before .before .plan-network .ensures)
+    let at-plan-network = c .before .before .before .before in
+    let at-if2 = at-plan-network .before .before .before in
+    let at-if1 = at-if2 .before in
+    let at-enum-told = at-if1 .before .before in
+    let at-read-network = at-enum-told .before .before .before in
+    let r = reading-recorded _ _ (at-read-network .read-network .ensures) (at-enum-told .enum-told .given .1) in
+    searched _ _ _ _ (r .reads) _ (r .filled .counted) (at-if1 .if1 .left) _ _ _ _ refl (at-if2 .if2 .left) (at-plan-network .plan-network .ensures)
 
 pub make-plan-spec : {M : Type 1} → statement M
 make-plan-spec =

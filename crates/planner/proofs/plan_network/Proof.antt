@@ -83,23 +83,26 @@ slice-aggregate-write-plan c = search needs
 
 write-plan-requires : tie.Need-write-plan-requires
 write-plan-requires c κs =
-    let v = c .before .before .before .before .before .before .before .before .before .before .before .before .before .before .before .before .before .before in
+    let at-n = c .before .before .before .before .before .before .before .before .before in
+    let at-find-plan = at-n .before .before .before .before .before in
+    let v = at-find-plan .before .before .before .before in
     let w = v .before .before .before .before .before .before .before .before .before .before .before .before .before .before .before in
     let p = w .before .before .before .before .before .before .before .before .before .pre in
     let y = ready _ _ p _ _ _ (w .list-steering .ensures) _ _ _ (v .before .before .before .before .before .before .before .before .before .build-moves .ensures) (v .before .before .setting-number .ensures) (ap (λ (n : ℕ). n - 1) (v .wide .ensures ∙ v .before .power-of-2 .ensures .0)) in
-    let f = c .before .before .before .before .before .before .before .before .before .before .before .before .before .before .find-plan .ensures in
-    has-text _ _ p _ _ _ _ _ _ y (w .before .before .before .before .before .before .before .before .before .args .plan .now) _ (f .1 .1) _ (f .0) _ _ (c .before .before .before .before .before .before .before .before .before .n .given .1) (f .1 .0)
+    let f = at-find-plan .find-plan .ensures in
+    has-text _ _ p _ _ _ _ _ _ y (w .before .before .before .before .before .before .before .before .before .args .plan .now) _ (f .1 .1) _ (f .0) _ _ (at-n .n .given .1) (f .1 .0)
 
 same-length : tie.Need-same-length
 same-length c = search needs
 
 returns : tie.Need-returns
 returns c =
-    let v = c .before .before .before .before .before .before .before .before .before in
+    let at-find-plan = c .before .before .before .before .before in
+    let v = at-find-plan .before .before .before .before in
     let w = v .before .before .before .before .before .before .before .before .before .before .before .before .before .before .before in
     let p = w .before .before .before .before .before .before .before .before .before .pre in
     let y = ready _ _ p _ _ _ (w .list-steering .ensures) _ _ _ (v .before .before .before .before .before .before .before .before .before .build-moves .ensures) (v .before .before .setting-number .ensures) (ap (λ (n : ℕ). n - 1) (v .wide .ensures ∙ v .before .power-of-2 .ensures .0)) in
-    let f = c .before .before .before .before .before .find-plan .ensures in
+    let f = at-find-plan .find-plan .ensures in
     finds-none _ _ p _ _ _ _ _ _ y _ _ (f .1 .1) _ (f .0) (c .enum-told .given .1)
 
 same-length-2 : tie.Need-same-length-2
@@ -110,12 +113,15 @@ same-length-3 c = search needs
 
 returns-2 : tie.Need-returns-2
 returns-2 c =
-    let v = c .before .before .before .before .before .before .before .before .before .before .before .before .before .before .before .before .before .before .before .before .before in
+    let at-write-plan = c .before .before in
+    let at-n = at-write-plan .before .before .before .before .before .before .before .before .before .before in
+    let at-find-plan = at-n .before .before .before .before .before in
+    let v = at-find-plan .before .before .before .before in
     let w = v .before .before .before .before .before .before .before .before .before .before .before .before .before .before .before in
     let p = w .before .before .before .before .before .before .before .before .before .pre in
     let y = ready _ _ p _ _ _ (w .list-steering .ensures) _ _ _ (v .before .before .before .before .before .before .before .before .before .build-moves .ensures) (v .before .before .setting-number .ensures) (ap (λ (n : ℕ). n - 1) (v .wide .ensures ∙ v .before .power-of-2 .ensures .0)) in
-    let f = c .before .before .before .before .before .before .before .before .before .before .before .before .before .before .before .before .before .find-plan .ensures in
-    finds-plan _ _ p _ _ _ _ _ _ y _ _ (f .1 .1) _ (f .0) _ _ (c .before .before .before .before .before .before .before .before .before .before .before .before .n .given .1) (f .1 .0) _ _ (c .before .before .write-plan .ensures)
+    let f = at-find-plan .find-plan .ensures in
+    finds-plan _ _ p _ _ _ _ _ _ y _ _ (f .1 .1) _ (f .0) _ _ (at-n .n .given .1) (f .1 .0) _ _ (at-write-plan .write-plan .ensures)
 
 pub plan-network-spec : {M : Type 1} → statement M
 plan-network-spec =

@@ -6,15 +6,15 @@ use super::random::Random;
 
 /// A level of a tree: the address and the count of inputs.
 #[derive(Clone, Copy)]
-struct Level {
-    seg: usize,
-    bit: usize,
-    inputs: usize,
+pub(super) struct Level {
+    pub seg: usize,
+    pub bit: usize,
+    pub inputs: usize,
 }
 
 /// Adds a tree and gives its root. `leaf` gives the node for the inputs chosen so far; it may
 /// give one before the last level.
-fn tree(
+pub(super) fn tree(
     draft: &mut Draft,
     levels: &[Level],
     chosen: &mut Vec<usize>,
@@ -88,7 +88,7 @@ pub fn gray(operations: usize, write: Option<&str>, always: &[usize]) -> Draft {
 }
 
 /// The number whose Gray code has these bits, bit 0 first.
-fn gray_number(code: &[usize]) -> usize {
+pub(super) fn gray_number(code: &[usize]) -> usize {
     let mut number = 0;
     let mut above = 0;
     for bit in code.iter().rev() {

@@ -45,7 +45,11 @@ returns-2 c =
     noted-here _ _ _ _ _ _ (s .pre .1 .0) _ (p .before .if1 .left) (sym (ap placed (c .before .p .given .1)) ∙ p .place-of .ensures) (s .pre .1 .2) (s .pre .1 .1)
 
 returns-3 : tie.Need-returns-3
-returns-3 c = noted-off _ _ _ _ _ _ (c .before .before .before .before .before .pre .1 .0) (c .before .before .before .if1 .left) (sym (ap placed (c .enum-told .given .1)) ∙ c .before .before .place-of .ensures)
+returns-3 c =
+    let at-place-of = c .before .before in
+    let at-if1 = at-place-of .before in
+    let at-start = at-if1 .before .before in
+    noted-off _ _ _ _ _ _ (at-start .pre .1 .0) (at-if1 .if1 .left) (sym (ap placed (c .enum-told .given .1)) ∙ at-place-of .place-of .ensures)
 
 pub note-target-spec : {M : Type 1} → statement M
 note-target-spec =

@@ -18,8 +18,10 @@ enum-known-count c = search needs
 
 run-lines-requires : tie.Need-run-lines-requires
 run-lines-requires c κs =
-    let s = c .before .before .before .before .before .before .before .before .before .before .before .before .before in
-    (s .pre .0, ((s .pre .1 .0 .0, start-on _ (s .pre .0 .0) _ _ (s .args .plan .now) _ _ _ _ (s .pre .1 .0 .1) (c .before .before .before .before .before .before .before .before .find-path .ensures) _ (c .before .before .before .before .before .before .count .given .1)), s .pre .1 .1))
+    let at-count = c .before .before .before .before .before .before in
+    let at-find-path = at-count .before .before in
+    let s = at-find-path .before .before .before .before .before in
+    (s .pre .0, ((s .pre .1 .0 .0, start-on _ (s .pre .0 .0) _ _ (s .args .plan .now) _ _ _ _ (s .pre .1 .0 .1) (at-find-path .find-path .ensures) _ (at-count .count .given .1)), s .pre .1 .1))
 
 enum-known-m : tie.Need-enum-known-m
 enum-known-m c = search needs

@@ -23,7 +23,9 @@ refuse-requires c κs = search needs
 
 -- src/add.rt:34:9
 returns : tie.Need-returns
-returns c = λ bits known held d w. agrees-refused _ _ _ 4 (c .before .before .args .n) (node-4 d (c .before .before .args .n) (nodeFor (c .before .before .args .x)) (drawn-out (c .before .before .args .nodes .now) bits known (c .before .before .args .steering .now) held (c .before .before .args .t) d (c .before .before .args .n) w ∙ c .before .if1 .taken)) (c .refuse .ensures)
+returns c =
+    let at-start = c .before .before in
+    λ bits known held d w. agrees-refused _ _ _ 4 (at-start .args .n) (node-4 d (at-start .args .n) (nodeFor (at-start .args .x)) (drawn-out (at-start .args .nodes .now) bits known (at-start .args .steering .now) held (at-start .args .t) d (at-start .args .n) w ∙ c .before .if1 .taken)) (c .refuse .ensures)
 
 -- src/add.rt:36:8
 is-outside-requires : tie.Need-is-outside-requires
@@ -35,7 +37,11 @@ refuse-requires-2 c κs = search needs
 
 -- src/add.rt:37:9
 returns-2 : tie.Need-returns-2
-returns-2 c = λ bits known held d w. agrees-refused _ _ _ 2 (c .before .before .before .before .args .n) (node-2 d (c .before .before .before .before .args .n) (nodeFor (c .before .before .before .before .args .x)) (drawn-out (c .before .before .before .before .args .nodes .now) bits known (c .before .before .before .before .args .steering .now) held (c .before .before .before .before .args .t) d (c .before .before .before .before .args .n) w ∙ c .before .before .before .if1 .left) (sym (c .before .before .is-outside .ensures) ∙ c .before .if2 .taken)) (c .refuse2 .ensures)
+returns-2 c =
+    let at-is-outside = c .before .before in
+    let at-if1 = at-is-outside .before in
+    let at-start = at-if1 .before in
+    λ bits known held d w. agrees-refused _ _ _ 2 (at-start .args .n) (node-2 d (at-start .args .n) (nodeFor (at-start .args .x)) (drawn-out (at-start .args .nodes .now) bits known (at-start .args .steering .now) held (at-start .args .t) d (at-start .args .n) w ∙ at-if1 .if1 .left) (sym (at-is-outside .is-outside .ensures) ∙ c .before .if2 .taken)) (c .refuse2 .ensures)
 
 -- src/add.rt:41:9
 refuse-requires-3 : tie.Need-refuse-requires-3
@@ -43,7 +49,12 @@ refuse-requires-3 c κs = search needs
 
 -- src/add.rt:41:9
 returns-3 : tie.Need-returns-3
-returns-3 c = λ bits known held d w. agrees-refused _ _ _ 3 (c .before .before .before .before .before .args .n) (node-3 d (c .before .before .before .before .before .args .n) (nodeFor (c .before .before .before .before .before .args .x)) (drawn-out (c .before .before .before .before .before .args .nodes .now) bits known (c .before .before .before .before .before .args .steering .now) held (c .before .before .before .before .before .args .t) d (c .before .before .before .before .before .args .n) w ∙ c .before .before .before .before .if1 .left) (sym (c .before .before .before .is-outside .ensures) ∙ c .before .before .if2 .left) (omega (arith, drawn-count (c .before .before .before .before .before .args .nodes .now) bits known (c .before .before .before .before .before .args .steering .now) held (c .before .before .before .before .before .args .t) d (c .before .before .before .before .before .args .n) w, c .before .if3 .taken))) (c .refuse3 .ensures)
+returns-3 c =
+    let at-if2 = c .before .before in
+    let at-is-outside = at-if2 .before in
+    let at-if1 = at-is-outside .before in
+    let at-start = at-if1 .before in
+    λ bits known held d w. agrees-refused _ _ _ 3 (at-start .args .n) (node-3 d (at-start .args .n) (nodeFor (at-start .args .x)) (drawn-out (at-start .args .nodes .now) bits known (at-start .args .steering .now) held (at-start .args .t) d (at-start .args .n) w ∙ at-if1 .if1 .left) (sym (at-is-outside .is-outside .ensures) ∙ at-if2 .if2 .left) (omega (arith, drawn-count (at-start .args .nodes .now) bits known (at-start .args .steering .now) held (at-start .args .t) d (at-start .args .n) w, c .before .if3 .taken))) (c .refuse3 .ensures)
 
 -- src/add.rt:43:9
 bits-of-requires : tie.Need-bits-of-requires
@@ -59,7 +70,14 @@ refuse-requires-4 c κs = search needs
 
 -- src/add.rt:46:9
 returns-4 : tie.Need-returns-4
-returns-4 c = λ bits known held d w. agrees-refused _ _ _ 3 (c .before .before .before .before .before .before .before .args .n) (bits-3 d (c .before .before .before .before .before .before .before .args .n) (nodeFor (c .before .before .before .before .before .before .before .args .x)) (drawn-out (c .before .before .before .before .before .before .before .args .nodes .now) bits known (c .before .before .before .before .before .before .before .args .steering .now) held (c .before .before .before .before .before .before .before .args .t) d (c .before .before .before .before .before .before .before .args .n) w ∙ c .before .before .before .before .before .before .if1 .left) (sym (c .before .before .before .before .before .is-outside .ensures) ∙ c .before .before .before .before .if2 .left) (omega (arith, drawn-count (c .before .before .before .before .before .before .before .args .nodes .now) bits known (c .before .before .before .before .before .before .before .args .steering .now) held (c .before .before .before .before .before .before .before .args .t) d (c .before .before .before .before .before .before .before .args .n) w, c .before .before .before .if3 .left)) (omega (arith, w .total-is, c .before .before .bits-of .ensures, c .before .if4 .taken))) (c .refuse4 .ensures)
+returns-4 c =
+    let at-bits-of = c .before .before in
+    let at-if3 = at-bits-of .before in
+    let at-if2 = at-if3 .before in
+    let at-is-outside = at-if2 .before in
+    let at-if1 = at-is-outside .before in
+    let at-start = at-if1 .before in
+    λ bits known held d w. agrees-refused _ _ _ 3 (at-start .args .n) (bits-3 d (at-start .args .n) (nodeFor (at-start .args .x)) (drawn-out (at-start .args .nodes .now) bits known (at-start .args .steering .now) held (at-start .args .t) d (at-start .args .n) w ∙ at-if1 .if1 .left) (sym (at-is-outside .is-outside .ensures) ∙ at-if2 .if2 .left) (omega (arith, drawn-count (at-start .args .nodes .now) bits known (at-start .args .steering .now) held (at-start .args .t) d (at-start .args .n) w, at-if3 .if3 .left)) (omega (arith, w .total-is, at-bits-of .bits-of .ensures, c .before .if4 .taken))) (c .refuse4 .ensures)
 
 -- src/add.rt:48:13
 add-k : tie.Need-add-k
@@ -83,7 +101,17 @@ add-next c = search needs
 
 -- src/add.rt:29:1
 returns-5 : tie.Need-returns-5
-returns-5 c = λ bits known held d w. agrees-ok _ _ _ (withNode d (nodeFor (c .before .before .before .before .before .before .before .before .before .before .before .args .x))) (node-added d (c .before .before .before .before .before .before .before .before .before .before .before .args .n) (nodeFor (c .before .before .before .before .before .before .before .before .before .before .before .args .x)) (drawn-out (c .before .before .before .before .before .before .before .before .before .before .before .args .nodes .now) bits known (c .before .before .before .before .before .before .before .before .before .before .before .args .steering .now) held (c .before .before .before .before .before .before .before .before .before .before .before .args .t) d (c .before .before .before .before .before .before .before .before .before .before .before .args .n) w ∙ c .before .before .before .before .before .before .before .before .before .before .if1 .left) (sym (c .before .before .before .before .before .before .before .before .before .is-outside .ensures) ∙ c .before .before .before .before .before .before .before .before .if2 .left) (omega (arith, drawn-count (c .before .before .before .before .before .before .before .before .before .before .before .args .nodes .now) bits known (c .before .before .before .before .before .before .before .before .before .before .before .args .steering .now) held (c .before .before .before .before .before .before .before .before .before .before .before .args .t) d (c .before .before .before .before .before .before .before .before .before .before .before .args .n) w, c .before .before .before .before .before .before .before .if3 .left)) (omega (arith, w .total-is, c .before .before .before .before .before .before .bits-of .ensures, c .before .before .before .before .before .if4 .left))) refl (rw (c .before .before .before .before .before .before .bits-of .ensures) (longer (c .before .before .before .before .before .before .before .before .before .before .before .args .nodes .now) bits known (c .before .before .before .before .before .before .before .before .before .before .before .args .steering .now) held (c .before .before .before .before .before .before .before .before .before .before .before .args .t) d (c .before .before .before .before .before .before .before .before .before .before .before .args .n) w (nodeFor (c .before .before .before .before .before .before .before .before .before .before .before .args .x)) (good-form (c .before .before .before .before .before .before .before .before .before .before .before .args .x) (c .before .before .before .before .before .before .before .before .before .before .before .pre .0)) _ _ _ (c .before .before .before .row-of .ensures) (c .before .before .store-row .ensures) (c .mark-steering .ensures) (drawn-out (c .before .before .before .before .before .before .before .before .before .before .before .args .nodes .now) bits known (c .before .before .before .before .before .before .before .before .before .before .before .args .steering .now) held (c .before .before .before .before .before .before .before .before .before .before .before .args .t) d (c .before .before .before .before .before .before .before .before .before .before .before .args .n) w ∙ c .before .before .before .before .before .before .before .before .before .before .if1 .left) (sym (c .before .before .before .before .before .before .before .before .before .is-outside .ensures) ∙ c .before .before .before .before .before .before .before .before .if2 .left) (search needs) (omega (arith, w .total-is, c .before .before .before .before .before .before .bits-of .ensures, c .before .before .before .before .before .if4 .left))))
+returns-5 c =
+    let at-store-row = c .before .before in
+    let at-row-of = at-store-row .before in
+    let at-if4 = at-row-of .before .before in
+    let at-bits-of = at-if4 .before in
+    let at-if3 = at-bits-of .before in
+    let at-if2 = at-if3 .before in
+    let at-is-outside = at-if2 .before in
+    let at-if1 = at-is-outside .before in
+    let at-start = at-if1 .before in
+    λ bits known held d w. agrees-ok _ _ _ (withNode d (nodeFor (at-start .args .x))) (node-added d (at-start .args .n) (nodeFor (at-start .args .x)) (drawn-out (at-start .args .nodes .now) bits known (at-start .args .steering .now) held (at-start .args .t) d (at-start .args .n) w ∙ at-if1 .if1 .left) (sym (at-is-outside .is-outside .ensures) ∙ at-if2 .if2 .left) (omega (arith, drawn-count (at-start .args .nodes .now) bits known (at-start .args .steering .now) held (at-start .args .t) d (at-start .args .n) w, at-if3 .if3 .left)) (omega (arith, w .total-is, at-bits-of .bits-of .ensures, at-if4 .if4 .left))) refl (rw (at-bits-of .bits-of .ensures) (longer (at-start .args .nodes .now) bits known (at-start .args .steering .now) held (at-start .args .t) d (at-start .args .n) w (nodeFor (at-start .args .x)) (good-form (at-start .args .x) (at-start .pre .0)) _ _ _ (at-row-of .row-of .ensures) (at-store-row .store-row .ensures) (c .mark-steering .ensures) (drawn-out (at-start .args .nodes .now) bits known (at-start .args .steering .now) held (at-start .args .t) d (at-start .args .n) w ∙ at-if1 .if1 .left) (sym (at-is-outside .is-outside .ensures) ∙ at-if2 .if2 .left) (search needs) (omega (arith, w .total-is, at-bits-of .bits-of .ensures, at-if4 .if4 .left))))
 
 pub add-node-spec : {M : Type 1} → statement M
 add-node-spec =

@@ -19,7 +19,9 @@ refuse-requires c κs = search needs
 
 -- src/add.rt:70:9
 returns : tie.Need-returns
-returns c = λ bits known steering held d w. agrees-refused _ _ _ 4 (c .before .before .args .n) (out-4 d (c .before .before .args .n) (c .before .before .args .k) (drawn-out (c .before .before .args .nodes .now) bits known steering held (c .before .before .args .t) d (c .before .before .args .n) w ∙ c .before .if1 .taken)) (c .refuse .ensures)
+returns c =
+    let at-start = c .before .before in
+    λ bits known steering held d w. agrees-refused _ _ _ 4 (at-start .args .n) (out-4 d (at-start .args .n) (at-start .args .k) (drawn-out (at-start .args .nodes .now) bits known steering held (at-start .args .t) d (at-start .args .n) w ∙ c .before .if1 .taken)) (c .refuse .ensures)
 
 -- src/add.rt:74:9
 refuse-requires-2 : tie.Need-refuse-requires-2
@@ -27,7 +29,10 @@ refuse-requires-2 c κs = search needs
 
 -- src/add.rt:74:9
 returns-2 : tie.Need-returns-2
-returns-2 c = λ bits known steering held d w. agrees-refused _ _ _ 2 (c .before .before .before .args .n) (out-2 d (c .before .before .before .args .n) (c .before .before .before .args .k) (drawn-out (c .before .before .before .args .nodes .now) bits known steering held (c .before .before .before .args .t) d (c .before .before .before .args .n) w ∙ c .before .before .if1 .left) (omega (arith, drawn-count (c .before .before .before .args .nodes .now) bits known steering held (c .before .before .before .args .t) d (c .before .before .before .args .n) w, c .before .if2 .taken))) (c .refuse2 .ensures)
+returns-2 c =
+    let at-if1 = c .before .before in
+    let at-start = at-if1 .before in
+    λ bits known steering held d w. agrees-refused _ _ _ 2 (at-start .args .n) (out-2 d (at-start .args .n) (at-start .args .k) (drawn-out (at-start .args .nodes .now) bits known steering held (at-start .args .t) d (at-start .args .n) w ∙ at-if1 .if1 .left) (omega (arith, drawn-count (at-start .args .nodes .now) bits known steering held (at-start .args .t) d (at-start .args .n) w, c .before .if2 .taken))) (c .refuse2 .ensures)
 
 -- src/add.rt:76:9
 first-bad-requires : tie.Need-first-bad-requires
@@ -39,11 +44,20 @@ refuse-requires-3 c κs = search needs
 
 -- src/add.rt:78:9
 returns-3 : tie.Need-returns-3
-returns-3 c = λ bits known steering held d w. agrees-refused _ _ _ 5 _ (out-5 d (c .before .before .before .before .before .args .n) (c .before .before .before .before .before .args .k) (drawn-out (c .before .before .before .before .before .args .nodes .now) bits known steering held (c .before .before .before .before .before .args .t) d (c .before .before .before .before .before .args .n) w ∙ c .before .before .before .before .if1 .left) (omega (arith, drawn-count (c .before .before .before .before .before .args .nodes .now) bits known steering held (c .before .before .before .before .before .args .t) d (c .before .before .before .before .before .args .n) w, c .before .before .before .if2 .left)) (c .before .before .first-bad .result) (c .before .before .first-bad .ensures ∙ ap (λ (ns : List Node). firstBad ns 1 ns) (w .nodes-are)) (c .before .if3 .taken)) (c .refuse3 .ensures)
+returns-3 c =
+    let at-first-bad = c .before .before in
+    let at-if2 = at-first-bad .before in
+    let at-if1 = at-if2 .before in
+    let at-start = at-if1 .before in
+    λ bits known steering held d w. agrees-refused _ _ _ 5 _ (out-5 d (at-start .args .n) (at-start .args .k) (drawn-out (at-start .args .nodes .now) bits known steering held (at-start .args .t) d (at-start .args .n) w ∙ at-if1 .if1 .left) (omega (arith, drawn-count (at-start .args .nodes .now) bits known steering held (at-start .args .t) d (at-start .args .n) w, at-if2 .if2 .left)) (at-first-bad .first-bad .result) (at-first-bad .first-bad .ensures ∙ ap (λ (ns : List Node). firstBad ns 1 ns) (w .nodes-are)) (c .before .if3 .taken)) (c .refuse3 .ensures)
 
 -- src/add.rt:65:1
 returns-4 : tie.Need-returns-4
-returns-4 c = λ bits known steering held d w. let is = out-added d (c .before .before .before .before .args .n) (c .before .before .before .before .args .k) (drawn-out (c .before .before .before .before .args .nodes .now) bits known steering held (c .before .before .before .before .args .t) d (c .before .before .before .before .args .n) w ∙ c .before .before .before .if1 .left) (omega (arith, drawn-count (c .before .before .before .before .args .nodes .now) bits known steering held (c .before .before .before .before .args .t) d (c .before .before .before .before .args .n) w, c .before .before .if2 .left)) (c .before .first-bad .result) (c .before .first-bad .ensures ∙ ap (λ (ns : List Node). firstBad ns 1 ns) (w .nodes-are)) (c .if3 .left) in agrees-ok _ _ _ (withOut d (c .before .before .before .before .args .k)) is refl (fed (c .before .before .before .before .args .nodes .now) bits known steering held (c .before .before .before .before .args .t) d (c .before .before .before .before .args .n) (c .before .before .before .before .args .k) w is)
+returns-4 c =
+    let at-if2 = c .before .before in
+    let at-if1 = at-if2 .before in
+    let at-start = at-if1 .before in
+    λ bits known steering held d w. let is = out-added d (at-start .args .n) (at-start .args .k) (drawn-out (at-start .args .nodes .now) bits known steering held (at-start .args .t) d (at-start .args .n) w ∙ at-if1 .if1 .left) (omega (arith, drawn-count (at-start .args .nodes .now) bits known steering held (at-start .args .t) d (at-start .args .n) w, at-if2 .if2 .left)) (c .before .first-bad .result) (c .before .first-bad .ensures ∙ ap (λ (ns : List Node). firstBad ns 1 ns) (w .nodes-are)) (c .if3 .left) in agrees-ok _ _ _ (withOut d (at-start .args .k)) is refl (fed (at-start .args .nodes .now) bits known steering held (at-start .args .t) d (at-start .args .n) (at-start .args .k) w is)
 
 pub add-out-spec : {M : Type 1} → statement M
 add-out-spec =

@@ -23,7 +23,9 @@ refuse-requires c κs = search needs
 
 -- src/add.rt:191:9
 returns : tie.Need-returns
-returns c = λ bits known held d w. agrees-refused _ _ _ 4 (c .before .before .before .args .n) (target-4 d (c .before .before .before .args .n) (read (c .before .before .before .args .s)) (drawn-out (c .before .before .before .args .nodes .now) bits known (c .before .before .before .args .steering .now) held (c .before .before .before .args .t) d (c .before .before .before .args .n) w ∙ not-true _ (c .before .if1 .taken))) (c .refuse .ensures)
+returns c =
+    let at-start = c .before .before .before in
+    λ bits known held d w. agrees-refused _ _ _ 4 (at-start .args .n) (target-4 d (at-start .args .n) (read (at-start .args .s)) (drawn-out (at-start .args .nodes .now) bits known (at-start .args .steering .now) held (at-start .args .t) d (at-start .args .n) w ∙ not-true _ (c .before .if1 .taken))) (c .refuse .ensures)
 
 -- src/add.rt:193:9
 len-of-requires : tie.Need-len-of-requires
@@ -35,15 +37,25 @@ refuse-requires-2 c κs = search needs
 
 -- src/add.rt:195:9
 returns-2 : tie.Need-returns-2
-returns-2 c = λ bits known held d w. agrees-refused _ _ _ 6 (c .before .before .before .before .before .args .n) (target-6 d (c .before .before .before .before .before .args .n) (read (c .before .before .before .before .before .args .s)) (drawn-out (c .before .before .before .before .before .args .nodes .now) bits known (c .before .before .before .before .before .args .steering .now) held (c .before .before .before .before .before .args .t) d (c .before .before .before .before .before .args .n) w ∙ not-false _ (c .before .before .before .if1 .left)) (no-bits (c .before .before .before .before .before .args .nodes .now) bits known (c .before .before .before .before .before .args .steering .now) held (c .before .before .before .before .before .args .t) d (c .before .before .before .before .before .args .n) w (c .before .before .before .before .before .args .s) ((drawn-len (c .before .before .before .before .before .args .nodes .now) bits known (c .before .before .before .before .before .args .steering .now) held (c .before .before .before .before .before .args .t) d (c .before .before .before .before .before .args .n) w (c .before .before .len-of .result) (c .before .before .before .before .before .args .s) (c .before .before .len-of .ensures .0)) ∙ c .before .if2 .taken))) (c .refuse2 .ensures)
+returns-2 c =
+    let at-len-of = c .before .before in
+    let at-if1 = at-len-of .before in
+    let at-start = at-if1 .before .before in
+    λ bits known held d w. agrees-refused _ _ _ 6 (at-start .args .n) (target-6 d (at-start .args .n) (read (at-start .args .s)) (drawn-out (at-start .args .nodes .now) bits known (at-start .args .steering .now) held (at-start .args .t) d (at-start .args .n) w ∙ not-false _ (at-if1 .if1 .left)) (no-bits (at-start .args .nodes .now) bits known (at-start .args .steering .now) held (at-start .args .t) d (at-start .args .n) w (at-start .args .s) ((drawn-len (at-start .args .nodes .now) bits known (at-start .args .steering .now) held (at-start .args .t) d (at-start .args .n) w (at-len-of .len-of .result) (at-start .args .s) (at-len-of .len-of .ensures .0)) ∙ c .before .if2 .taken))) (c .refuse2 .ensures)
 
 -- src/add.rt:197:5
 add-target-requires : tie.Need-add-target-requires
-add-target-requires c κs = let r = c .before .len-of .ensures .1 (let ne = c .if2 .left in omega arith) in (c .before .before .before .before .pre, omega (arith, r .1, c .before .before .before .before .pre .nodes-fit))
+add-target-requires c κs =
+    let at-start = c .before .before .before .before in
+    let r = c .before .len-of .ensures .1 (let ne = c .if2 .left in omega arith) in (at-start .pre, omega (arith, r .1, at-start .pre .nodes-fit))
 
 -- src/add.rt:186:1
 returns-3 : tie.Need-returns-3
-returns-3 c = λ bits known held d w. let fits = with-bits (c .before .before .before .before .before .args .nodes .now) bits known (c .before .before .before .before .before .args .steering .now) held (c .before .before .before .before .before .args .t) d (c .before .before .before .before .before .args .n) w (c .before .before .before .before .before .args .s) (λ z. c .before .if2 .left (sym (drawn-len (c .before .before .before .before .before .args .nodes .now) bits known (c .before .before .before .before .before .args .steering .now) held (c .before .before .before .before .before .args .t) d (c .before .before .before .before .before .args .n) w (c .before .before .len-of .result) (c .before .before .before .before .before .args .s) (c .before .before .len-of .ensures .0)) ∙ z)) in agrees-same _ _ _ _ (target-rest d (c .before .before .before .before .before .args .n) (read (c .before .before .before .before .before .args .s)) (drawn-out (c .before .before .before .before .before .args .nodes .now) bits known (c .before .before .before .before .before .args .steering .now) held (c .before .before .before .before .before .args .t) d (c .before .before .before .before .before .args .n) w ∙ not-false _ (c .before .before .before .if1 .left)) fits) (c .add-target .ensures (c .before .before .before .before .before .args .nodes .now) bits known held [] d (drawn-out (c .before .before .before .before .before .args .nodes .now) bits known (c .before .before .before .before .before .args .steering .now) held (c .before .before .before .before .before .args .t) d (c .before .before .before .before .before .args .n) w ∙ not-false _ (c .before .before .before .if1 .left)) fits (λ z. absurd (true-false (sym z))) w)
+returns-3 c =
+    let at-len-of = c .before .before in
+    let at-if1 = at-len-of .before in
+    let at-start = at-if1 .before .before in
+    λ bits known held d w. let fits = with-bits (at-start .args .nodes .now) bits known (at-start .args .steering .now) held (at-start .args .t) d (at-start .args .n) w (at-start .args .s) (λ z. c .before .if2 .left (sym (drawn-len (at-start .args .nodes .now) bits known (at-start .args .steering .now) held (at-start .args .t) d (at-start .args .n) w (at-len-of .len-of .result) (at-start .args .s) (at-len-of .len-of .ensures .0)) ∙ z)) in agrees-same _ _ _ _ (target-rest d (at-start .args .n) (read (at-start .args .s)) (drawn-out (at-start .args .nodes .now) bits known (at-start .args .steering .now) held (at-start .args .t) d (at-start .args .n) w ∙ not-false _ (at-if1 .if1 .left)) fits) (c .add-target .ensures (at-start .args .nodes .now) bits known held [] d (drawn-out (at-start .args .nodes .now) bits known (at-start .args .steering .now) held (at-start .args .t) d (at-start .args .n) w ∙ not-false _ (at-if1 .if1 .left)) fits (λ z. absurd (true-false (sym z))) w)
 
 pub add-read-spec : {M : Type 1} → statement M
 add-read-spec =

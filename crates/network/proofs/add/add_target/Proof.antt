@@ -26,7 +26,10 @@ refuse-requires c κs = search needs
 
 -- src/add.rt:168:9
 returns : tie.Need-returns
-returns c = λ ns bits known held bs d out fits is-word w. agrees-refused _ _ _ 6 (c .before .before .before .args .n) (again-6 d (c .before .before .before .args .n) (targetFor (c .before .before .before .args .write) (c .before .before .before .args .s) bs) (sym (ap (λ (ts : List Target). isTarget ts (targetFor (c .before .before .before .args .write) (c .before .before .before .args .s) bs)) (w .targets-are)) ∙ sym (c .before .before .has-target .ensures ns bs) ∙ c .before .if1 .taken)) (c .refuse .ensures)
+returns c =
+    let at-has-target = c .before .before in
+    let at-start = at-has-target .before in
+    λ ns bits known held bs d out fits is-word w. agrees-refused _ _ _ 6 (at-start .args .n) (again-6 d (at-start .args .n) (targetFor (at-start .args .write) (at-start .args .s) bs) (sym (ap (λ (ts : List Target). isTarget ts (targetFor (at-start .args .write) (at-start .args .s) bs)) (w .targets-are)) ∙ sym (at-has-target .has-target .ensures ns bs) ∙ c .before .if1 .taken)) (c .refuse .ensures)
 
 -- src/add.rt:170:8
 mul-if2 : tie.Need-mul-if2
@@ -42,7 +45,11 @@ refuse-requires-2 c κs = search needs
 
 -- src/add.rt:171:9
 returns-2 : tie.Need-returns-2
-returns-2 c = λ ns bits known held bs d out fits is-word w. agrees-refused _ _ _ 7 (c .before .before .before .before .before .args .n) (target-7 d (c .before .before .before .before .before .args .n) (targetFor (c .before .before .before .before .before .args .write) (c .before .before .before .before .before .args .s) bs) (sym (ap (λ (ts : List Target). isTarget ts (targetFor (c .before .before .before .before .before .args .write) (c .before .before .before .before .before .args .s) bs)) (w .targets-are)) ∙ sym (c .before .before .before .before .has-target .ensures ns bs) ∙ c .before .before .before .if1 .left) (ap (isSteering (d .nodes)) (segment-of (c .before .before .before .before .before .args .write) (c .before .before .before .before .before .args .s) bs) ∙ is-steering ns bits known (c .before .before .before .before .before .args .steering .now) held (c .before .before .before .before .before .args .t) d (c .before .before .before .before .before .args .n) w out (c .before .before .before .before .before .args .s) (c .before .before .before .before .before .pre .1) (c .before .if2 .taken))) (c .refuse2 .ensures)
+returns-2 c =
+    let at-if1 = c .before .before .before in
+    let at-has-target = at-if1 .before in
+    let at-start = at-has-target .before in
+    λ ns bits known held bs d out fits is-word w. agrees-refused _ _ _ 7 (at-start .args .n) (target-7 d (at-start .args .n) (targetFor (at-start .args .write) (at-start .args .s) bs) (sym (ap (λ (ts : List Target). isTarget ts (targetFor (at-start .args .write) (at-start .args .s) bs)) (w .targets-are)) ∙ sym (at-has-target .has-target .ensures ns bs) ∙ at-if1 .if1 .left) (ap (isSteering (d .nodes)) (segment-of (at-start .args .write) (at-start .args .s) bs) ∙ is-steering ns bits known (at-start .args .steering .now) held (at-start .args .t) d (at-start .args .n) w out (at-start .args .s) (at-start .pre .1) (c .before .if2 .taken))) (c .refuse2 .ensures)
 
 -- src/add.rt:175:9
 refuse-requires-3 : tie.Need-refuse-requires-3
@@ -50,7 +57,12 @@ refuse-requires-3 c κs = search needs
 
 -- src/add.rt:175:9
 returns-3 : tie.Need-returns-3
-returns-3 c = λ ns bits known held bs d out fits is-word w. agrees-refused _ _ _ 8 (c .before .before .before .before .before .before .args .n) (target-8 d (c .before .before .before .before .before .before .args .n) (targetFor (c .before .before .before .before .before .before .args .write) (c .before .before .before .before .before .before .args .s) bs) (sym (ap (λ (ts : List Target). isTarget ts (targetFor (c .before .before .before .before .before .before .args .write) (c .before .before .before .before .before .before .args .s) bs)) (w .targets-are)) ∙ sym (c .before .before .before .before .before .has-target .ensures ns bs) ∙ c .before .before .before .before .if1 .left) ((ap (isSteering (d .nodes)) (segment-of (c .before .before .before .before .before .before .args .write) (c .before .before .before .before .before .before .args .s) bs) ∙ not-steering ns bits known (c .before .before .before .before .before .before .args .steering .now) held (c .before .before .before .before .before .before .args .t) d (c .before .before .before .before .before .before .args .n) w out (c .before .before .before .before .before .before .args .s) (c .before .before .before .before .before .before .pre .1) (c .before .before .if2 .left))) (omega (arith, drawn-targets ns bits known (c .before .before .before .before .before .before .args .steering .now) held (c .before .before .before .before .before .before .args .t) d (c .before .before .before .before .before .before .args .n) w, c .before .if3 .taken))) (c .refuse3 .ensures)
+returns-3 c =
+    let at-if2 = c .before .before in
+    let at-if1 = at-if2 .before .before in
+    let at-has-target = at-if1 .before in
+    let at-start = at-has-target .before in
+    λ ns bits known held bs d out fits is-word w. agrees-refused _ _ _ 8 (at-start .args .n) (target-8 d (at-start .args .n) (targetFor (at-start .args .write) (at-start .args .s) bs) (sym (ap (λ (ts : List Target). isTarget ts (targetFor (at-start .args .write) (at-start .args .s) bs)) (w .targets-are)) ∙ sym (at-has-target .has-target .ensures ns bs) ∙ at-if1 .if1 .left) ((ap (isSteering (d .nodes)) (segment-of (at-start .args .write) (at-start .args .s) bs) ∙ not-steering ns bits known (at-start .args .steering .now) held (at-start .args .t) d (at-start .args .n) w out (at-start .args .s) (at-start .pre .1) (at-if2 .if2 .left))) (omega (arith, drawn-targets ns bits known (at-start .args .steering .now) held (at-start .args .t) d (at-start .args .n) w, c .before .if3 .taken))) (c .refuse3 .ensures)
 
 -- src/add.rt:178:31
 narrow-requires : tie.Need-narrow-requires
@@ -90,7 +102,13 @@ add-next c = search needs
 
 -- src/add.rt:163:1
 returns-4 : tie.Need-returns-4
-returns-4 c = λ ns bits known held bs d out fits is-word w. let is = target-added d (c .before .before .before .before .before .before .before .args .n) (targetFor (c .before .before .before .before .before .before .before .args .write) (c .before .before .before .before .before .before .before .args .s) bs) (sym (ap (λ (ts : List Target). isTarget ts (targetFor (c .before .before .before .before .before .before .before .args .write) (c .before .before .before .before .before .before .before .args .s) bs)) (w .targets-are)) ∙ sym (c .before .before .before .before .before .before .has-target .ensures ns bs) ∙ c .before .before .before .before .before .if1 .left) ((ap (isSteering (d .nodes)) (segment-of (c .before .before .before .before .before .before .before .args .write) (c .before .before .before .before .before .before .before .args .s) bs) ∙ not-steering ns bits known (c .before .before .before .before .before .before .before .args .steering .now) held (c .before .before .before .before .before .before .before .args .t) d (c .before .before .before .before .before .before .before .args .n) w out (c .before .before .before .before .before .before .before .args .s) (c .before .before .before .before .before .before .before .pre .1) (c .before .before .before .if2 .left))) (omega (arith, drawn-targets ns bits known (c .before .before .before .before .before .before .before .args .steering .now) held (c .before .before .before .before .before .before .before .args .t) d (c .before .before .before .before .before .before .before .args .n) w, c .before .before .if3 .left)) in agrees-ok _ _ _ (withTarget d (targetFor (c .before .before .before .before .before .before .before .args .write) (c .before .before .before .before .before .before .before .args .s) bs)) is refl (rw (c .flag-of .ensures, c .before .narrow .ensures) (with-target ns bits known (c .before .before .before .before .before .before .before .args .steering .now) held (c .before .before .before .before .before .before .before .args .t) d (c .before .before .before .before .before .before .before .args .n) w (c .before .before .before .before .before .before .before .args .s) (c .before .before .before .before .before .before .before .args .write) (c .before .before .before .before .before .before .before .args .bits) bs is-word (c .before .before .if3 .left) (target-rest d (c .before .before .before .before .before .before .before .args .n) (targetFor (c .before .before .before .before .before .before .before .args .write) (c .before .before .before .before .before .before .before .args .s) bs) out fits ∙ is)))
+returns-4 c =
+    let at-if3 = c .before .before in
+    let at-if2 = at-if3 .before in
+    let at-if1 = at-if2 .before .before in
+    let at-has-target = at-if1 .before in
+    let at-start = at-has-target .before in
+    λ ns bits known held bs d out fits is-word w. let is = target-added d (at-start .args .n) (targetFor (at-start .args .write) (at-start .args .s) bs) (sym (ap (λ (ts : List Target). isTarget ts (targetFor (at-start .args .write) (at-start .args .s) bs)) (w .targets-are)) ∙ sym (at-has-target .has-target .ensures ns bs) ∙ at-if1 .if1 .left) ((ap (isSteering (d .nodes)) (segment-of (at-start .args .write) (at-start .args .s) bs) ∙ not-steering ns bits known (at-start .args .steering .now) held (at-start .args .t) d (at-start .args .n) w out (at-start .args .s) (at-start .pre .1) (at-if2 .if2 .left))) (omega (arith, drawn-targets ns bits known (at-start .args .steering .now) held (at-start .args .t) d (at-start .args .n) w, at-if3 .if3 .left)) in agrees-ok _ _ _ (withTarget d (targetFor (at-start .args .write) (at-start .args .s) bs)) is refl (rw (c .flag-of .ensures, c .before .narrow .ensures) (with-target ns bits known (at-start .args .steering .now) held (at-start .args .t) d (at-start .args .n) w (at-start .args .s) (at-start .args .write) (at-start .args .bits) bs is-word (at-if3 .if3 .left) (target-rest d (at-start .args .n) (targetFor (at-start .args .write) (at-start .args .s) bs) out fits ∙ is)))
 
 pub add-target-spec : {M : Type 1} → statement M
 add-target-spec =

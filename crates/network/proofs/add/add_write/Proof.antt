@@ -31,7 +31,9 @@ refuse-requires c κs = search needs
 
 -- src/add.rt:206:9
 returns : tie.Need-returns
-returns c = λ bits known held d form w. agrees-refused _ _ _ 4 (c .before .before .before .before .args .n) (target-4 d (c .before .before .before .before .args .n) (write (c .before .before .before .before .args .s) (bitsIn bit (c .before .before .before .before .args .f .now))) (drawn-out (c .before .before .before .before .args .nodes .now) bits known (c .before .before .before .before .args .steering .now) held (c .before .before .before .before .args .t) d (c .before .before .before .before .args .n) w ∙ not-true _ (c .before .if1 .taken))) (c .refuse .ensures)
+returns c =
+    let at-start = c .before .before .before .before in
+    λ bits known held d form w. agrees-refused _ _ _ 4 (at-start .args .n) (target-4 d (at-start .args .n) (write (at-start .args .s) (bitsIn bit (at-start .args .f .now))) (drawn-out (at-start .args .nodes .now) bits known (at-start .args .steering .now) held (at-start .args .t) d (at-start .args .n) w ∙ not-true _ (c .before .if1 .taken))) (c .refuse .ensures)
 
 -- src/add.rt:208:9
 len-of-requires : tie.Need-len-of-requires
@@ -43,7 +45,11 @@ refuse-requires-2 c κs = search needs
 
 -- src/add.rt:210:9
 returns-2 : tie.Need-returns-2
-returns-2 c = λ bits known held d form w. agrees-refused _ _ _ 6 (c .before .before .before .before .before .before .args .n) (target-6 d (c .before .before .before .before .before .before .args .n) (write (c .before .before .before .before .before .before .args .s) (bitsIn bit (c .before .before .before .before .before .before .args .f .now))) (drawn-out (c .before .before .before .before .before .before .args .nodes .now) bits known (c .before .before .before .before .before .before .args .steering .now) held (c .before .before .before .before .before .before .args .t) d (c .before .before .before .before .before .before .args .n) w ∙ not-false _ (c .before .before .before .if1 .left)) (unfit-none (c .before .before .before .before .before .before .args .nodes .now) bits known (c .before .before .before .before .before .before .args .steering .now) held (c .before .before .before .before .before .before .args .t) d (c .before .before .before .before .before .before .args .n) w (c .before .before .before .before .before .before .args .s) (bitsIn bit (c .before .before .before .before .before .before .args .f .now)) ((drawn-len (c .before .before .before .before .before .before .args .nodes .now) bits known (c .before .before .before .before .before .before .args .steering .now) held (c .before .before .before .before .before .before .args .t) d (c .before .before .before .before .before .before .args .n) w (c .before .before .len-of .result) (c .before .before .before .before .before .before .args .s) (c .before .before .len-of .ensures .0)) ∙ c .before .if2 .taken))) (c .refuse2 .ensures)
+returns-2 c =
+    let at-len-of = c .before .before in
+    let at-if1 = at-len-of .before in
+    let at-start = at-if1 .before .before .before in
+    λ bits known held d form w. agrees-refused _ _ _ 6 (at-start .args .n) (target-6 d (at-start .args .n) (write (at-start .args .s) (bitsIn bit (at-start .args .f .now))) (drawn-out (at-start .args .nodes .now) bits known (at-start .args .steering .now) held (at-start .args .t) d (at-start .args .n) w ∙ not-false _ (at-if1 .if1 .left)) (unfit-none (at-start .args .nodes .now) bits known (at-start .args .steering .now) held (at-start .args .t) d (at-start .args .n) w (at-start .args .s) (bitsIn bit (at-start .args .f .now)) ((drawn-len (at-start .args .nodes .now) bits known (at-start .args .steering .now) held (at-start .args .t) d (at-start .args .n) w (at-len-of .len-of .result) (at-start .args .s) (at-len-of .len-of .ensures .0)) ∙ c .before .if2 .taken))) (c .refuse2 .ensures)
 
 -- src/add.rt:213:9
 refuse-requires-3 : tie.Need-refuse-requires-3
@@ -51,19 +57,36 @@ refuse-requires-3 c κs = search needs
 
 -- src/add.rt:213:9
 returns-3 : tie.Need-returns-3
-returns-3 c = λ bits known held d form w. agrees-refused _ _ _ 6 (c .before .before .before .before .before .before .before .args .n) (target-6 d (c .before .before .before .before .before .before .before .args .n) (write (c .before .before .before .before .before .before .before .args .s) (bitsIn bit (c .before .before .before .before .before .before .before .args .f .now))) (drawn-out (c .before .before .before .before .before .before .before .args .nodes .now) bits known (c .before .before .before .before .before .before .before .args .steering .now) held (c .before .before .before .before .before .before .before .args .t) d (c .before .before .before .before .before .before .before .args .n) w ∙ not-false _ (c .before .before .before .before .if1 .left)) (unfit-length (c .before .before .before .before .before .before .before .args .nodes .now) bits known (c .before .before .before .before .before .before .before .args .steering .now) held (c .before .before .before .before .before .before .before .args .t) d (c .before .before .before .before .before .before .before .args .n) w (c .before .before .before .before .before .before .before .args .s) (bitsIn bit (c .before .before .before .before .before .before .before .args .f .now)) (λ z. c .before .if3 .taken (sym (bits-in-length bit (c .before .before .before .before .before .before .before .args .f .now) form) ∙ z ∙ (drawn-len (c .before .before .before .before .before .before .before .args .nodes .now) bits known (c .before .before .before .before .before .before .before .args .steering .now) held (c .before .before .before .before .before .before .before .args .t) d (c .before .before .before .before .before .before .before .args .n) w (c .before .before .before .len-of .result) (c .before .before .before .before .before .before .before .args .s) (c .before .before .before .len-of .ensures .0)))))) (c .refuse3 .ensures)
+returns-3 c =
+    let at-len-of = c .before .before .before in
+    let at-if1 = at-len-of .before in
+    let at-start = at-if1 .before .before .before in
+    λ bits known held d form w. agrees-refused _ _ _ 6 (at-start .args .n) (target-6 d (at-start .args .n) (write (at-start .args .s) (bitsIn bit (at-start .args .f .now))) (drawn-out (at-start .args .nodes .now) bits known (at-start .args .steering .now) held (at-start .args .t) d (at-start .args .n) w ∙ not-false _ (at-if1 .if1 .left)) (unfit-length (at-start .args .nodes .now) bits known (at-start .args .steering .now) held (at-start .args .t) d (at-start .args .n) w (at-start .args .s) (bitsIn bit (at-start .args .f .now)) (λ z. c .before .if3 .taken (sym (bits-in-length bit (at-start .args .f .now) form) ∙ z ∙ (drawn-len (at-start .args .nodes .now) bits known (at-start .args .steering .now) held (at-start .args .t) d (at-start .args .n) w (at-len-of .len-of .result) (at-start .args .s) (at-len-of .len-of .ensures .0)))))) (c .refuse3 .ensures)
 
 -- src/add.rt:215:9
 words-of-requires : tie.Need-words-of-requires
-words-of-requires c κs = let r = c .before .before .len-of .ensures .1 (let ne = c .before .if2 .left in omega arith) in omega (arith, c .if3 .left, c .before .before .len-of .ensures .0, ap lenOf (node-in (c .before .before .before .before .before .before .args .nodes .now) ((c .before .before .before .before .before .before .args .t) .count) (c .before .before .before .before .before .before .args .s) (r .0) (r .1)), c .before .before .before .before .before .before .pre .1 (c .before .before .before .before .before .before .args .s) (r .0) (r .1))
+words-of-requires c κs =
+    let at-len-of = c .before .before in
+    let at-start = at-len-of .before .before .before .before in
+    let r = at-len-of .len-of .ensures .1 (let ne = c .before .if2 .left in omega arith) in omega (arith, c .if3 .left, at-len-of .len-of .ensures .0, ap lenOf (node-in (at-start .args .nodes .now) ((at-start .args .t) .count) (at-start .args .s) (r .0) (r .1)), at-start .pre .1 (at-start .args .s) (r .0) (r .1))
 
 -- src/add.rt:216:5
 add-target-requires : tie.Need-add-target-requires
-add-target-requires c κs = let r = c .before .before .before .len-of .ensures .1 (let ne = c .before .before .if2 .left in omega arith) in (c .before .before .before .before .before .before .before .pre .0, omega (arith, r .1, c .before .before .before .before .before .before .before .pre .0 .nodes-fit))
+add-target-requires c κs =
+    let at-if2 = c .before .before in
+    let at-len-of = at-if2 .before in
+    let at-start = at-len-of .before .before .before .before in
+    let r = at-len-of .len-of .ensures .1 (let ne = at-if2 .if2 .left in omega arith) in (at-start .pre .0, omega (arith, r .1, at-start .pre .0 .nodes-fit))
 
 -- src/add.rt:201:1
 returns-4 : tie.Need-returns-4
-returns-4 c = λ bits known held d form w. let r = c .before .before .before .before .len-of .ensures .1 (let ne = c .before .before .before .if2 .left in omega arith) in let fits = (fit (c .before .before .before .before .before .before .before .before .args .nodes .now) bits known (c .before .before .before .before .before .before .before .before .args .steering .now) held (c .before .before .before .before .before .before .before .before .args .t) d (c .before .before .before .before .before .before .before .before .args .n) w (c .before .before .before .before .before .before .before .before .args .s) (bitsIn bit (c .before .before .before .before .before .before .before .before .args .f .now)) (λ z. c .before .before .before .if2 .left (sym (drawn-len (c .before .before .before .before .before .before .before .before .args .nodes .now) bits known (c .before .before .before .before .before .before .before .before .args .steering .now) held (c .before .before .before .before .before .before .before .before .args .t) d (c .before .before .before .before .before .before .before .before .args .n) w (c .before .before .before .before .len-of .result) (c .before .before .before .before .before .before .before .before .args .s) (c .before .before .before .before .len-of .ensures .0)) ∙ z)) (bits-in-length bit (c .before .before .before .before .before .before .before .before .args .f .now) form ∙ c .before .before .if3 .left ∙ sym (drawn-len (c .before .before .before .before .before .before .before .before .args .nodes .now) bits known (c .before .before .before .before .before .before .before .before .args .steering .now) held (c .before .before .before .before .before .before .before .before .args .t) d (c .before .before .before .before .before .before .before .before .args .n) w (c .before .before .before .before .len-of .result) (c .before .before .before .before .before .before .before .before .args .s) (c .before .before .before .before .len-of .ensures .0)))) in let len = c .before .before .if3 .left ∙ c .before .before .before .before .len-of .ensures .0 ∙ ap lenOf (node-in (c .before .before .before .before .before .before .before .before .args .nodes .now) ((c .before .before .before .before .before .before .before .before .args .t) .count) (c .before .before .before .before .before .before .before .before .args .s) (r .0) (r .1)) in agrees-same _ _ _ _ (target-rest d (c .before .before .before .before .before .before .before .before .args .n) (write (c .before .before .before .before .before .before .before .before .args .s) (bitsIn bit (c .before .before .before .before .before .before .before .before .args .f .now))) (drawn-out (c .before .before .before .before .before .before .before .before .args .nodes .now) bits known (c .before .before .before .before .before .before .before .before .args .steering .now) held (c .before .before .before .before .before .before .before .before .args .t) d (c .before .before .before .before .before .before .before .before .args .n) w ∙ not-false _ (c .before .before .before .before .before .if1 .left)) fits) (c .add-target .ensures (c .before .before .before .before .before .before .before .before .args .nodes .now) bits known held (bitsIn bit (c .before .before .before .before .before .before .before .before .args .f .now)) d (drawn-out (c .before .before .before .before .before .before .before .before .args .nodes .now) bits known (c .before .before .before .before .before .before .before .before .args .steering .now) held (c .before .before .before .before .before .before .before .before .args .t) d (c .before .before .before .before .before .before .before .before .args .n) w ∙ not-false _ (c .before .before .before .before .before .if1 .left)) fits (λ z. ap (λ (x : ℕ). tabulate (wordBit (c .before .words-of .result .bits)) 0 x) (sym len) ∙ ap (λ (x : ℕ). tabulate (wordBit x) 0 (length (c .before .before .before .before .before .before .before .before .args .f .now))) (c .before .words-of .ensures .0) ∙ bits-of-field (c .before .before .before .before .before .before .before .before .args .f .now) (bitsIn bit (c .before .before .before .before .before .before .before .before .args .f .now)) (bits-are bit (c .before .before .before .before .before .before .before .before .args .f .now) form)) w)
+returns-4 c =
+    let at-if3 = c .before .before in
+    let at-if2 = at-if3 .before in
+    let at-len-of = at-if2 .before in
+    let at-if1 = at-len-of .before in
+    let at-start = at-if1 .before .before .before in
+    λ bits known held d form w. let r = at-len-of .len-of .ensures .1 (let ne = at-if2 .if2 .left in omega arith) in let fits = (fit (at-start .args .nodes .now) bits known (at-start .args .steering .now) held (at-start .args .t) d (at-start .args .n) w (at-start .args .s) (bitsIn bit (at-start .args .f .now)) (λ z. at-if2 .if2 .left (sym (drawn-len (at-start .args .nodes .now) bits known (at-start .args .steering .now) held (at-start .args .t) d (at-start .args .n) w (at-len-of .len-of .result) (at-start .args .s) (at-len-of .len-of .ensures .0)) ∙ z)) (bits-in-length bit (at-start .args .f .now) form ∙ at-if3 .if3 .left ∙ sym (drawn-len (at-start .args .nodes .now) bits known (at-start .args .steering .now) held (at-start .args .t) d (at-start .args .n) w (at-len-of .len-of .result) (at-start .args .s) (at-len-of .len-of .ensures .0)))) in let len = at-if3 .if3 .left ∙ at-len-of .len-of .ensures .0 ∙ ap lenOf (node-in (at-start .args .nodes .now) ((at-start .args .t) .count) (at-start .args .s) (r .0) (r .1)) in agrees-same _ _ _ _ (target-rest d (at-start .args .n) (write (at-start .args .s) (bitsIn bit (at-start .args .f .now))) (drawn-out (at-start .args .nodes .now) bits known (at-start .args .steering .now) held (at-start .args .t) d (at-start .args .n) w ∙ not-false _ (at-if1 .if1 .left)) fits) (c .add-target .ensures (at-start .args .nodes .now) bits known held (bitsIn bit (at-start .args .f .now)) d (drawn-out (at-start .args .nodes .now) bits known (at-start .args .steering .now) held (at-start .args .t) d (at-start .args .n) w ∙ not-false _ (at-if1 .if1 .left)) fits (λ z. ap (λ (x : ℕ). tabulate (wordBit (c .before .words-of .result .bits)) 0 x) (sym len) ∙ ap (λ (x : ℕ). tabulate (wordBit x) 0 (length (at-start .args .f .now))) (c .before .words-of .ensures .0) ∙ bits-of-field (at-start .args .f .now) (bitsIn bit (at-start .args .f .now)) (bits-are bit (at-start .args .f .now) form)) w)
 
 pub add-write-spec : {M : Type 1} → statement M
 add-write-spec =

@@ -48,7 +48,10 @@ is-same-requires c κs = search needs
 
 -- src/add.rt:143:13
 returns : tie.Need-returns Inv-loop μ-loop
-returns c = λ ns bs. there-hit ns (c .before .before .before .before .before .before .args .t1) (c .before .before .before .before .before .before .args .s) (c .before .before .before .before .before .before .args .write) bs (c .before .before .before .before .before .loop .i) (c .before .is-same .result) (c .before .is-same .ensures) (search needs) (c .if1 .taken) ∙ c .before .before .before .before .before .loop .inv .3 ns bs
+returns c =
+    let at-loop = c .before .before .before .before .before in
+    let at-start = at-loop .before in
+    λ ns bs. there-hit ns (at-start .args .t1) (at-start .args .s) (at-start .args .write) bs (at-loop .loop .i) (c .before .is-same .result) (c .before .is-same .ensures) (search needs) (c .if1 .taken) ∙ at-loop .loop .inv .3 ns bs
 
 -- src/add.rt:145:9
 add-i : tie.Need-add-i Inv-loop μ-loop
@@ -60,7 +63,10 @@ loop-less c = search needs
 
 -- src/add.rt:141:5
 loop-again : tie.Need-loop-again Inv-loop μ-loop
-loop-again c = (search needs, search needs, search needs, λ ns bs. there-miss ns (c .before .before .before .before .before .before .args .t1) (c .before .before .before .before .before .before .args .s) (c .before .before .before .before .before .before .args .write) bs (c .before .before .before .before .before .loop .i) (c .before .is-same .result) (c .before .is-same .ensures) (search needs) (c .if1 .left) ∙ c .before .before .before .before .before .loop .inv .3 ns bs)
+loop-again c =
+    let at-loop = c .before .before .before .before .before in
+    let at-start = at-loop .before in
+    (search needs, search needs, search needs, λ ns bs. there-miss ns (at-start .args .t1) (at-start .args .s) (at-start .args .write) bs (at-loop .loop .i) (c .before .is-same .result) (c .before .is-same .ensures) (search needs) (c .if1 .left) ∙ at-loop .loop .inv .3 ns bs)
 
 -- src/add.rt:135:1
 returns-2 : tie.Need-returns-2 Inv-loop μ-loop

@@ -17,11 +17,17 @@ returns c = same-no (c .before .before .args .segment) (c .before .before .args 
 
 -- src/add.rt:157:9
 returns-2 : tie.Need-returns-2
-returns-2 c = same-write (c .before .before .before .args .segment) (c .before .before .before .args .word) (c .before .before .before .args .s) (c .before .before .before .args .write) (sym (c .before .before .wide .ensures) ∙ c .before .if1 .left) (c .if2 .taken)
+returns-2 c =
+    let at-wide = c .before .before in
+    let at-start = at-wide .before in
+    same-write (at-start .args .segment) (at-start .args .word) (at-start .args .s) (at-start .args .write) (sym (at-wide .wide .ensures) ∙ c .before .if1 .left) (c .if2 .taken)
 
 -- src/add.rt:150:1
 returns-3 : tie.Need-returns-3
-returns-3 c = same-read (c .before .before .before .args .segment) (c .before .before .before .args .word) (c .before .before .before .args .s) (c .before .before .before .args .write) (sym (c .before .before .wide .ensures) ∙ c .before .if1 .left) (c .if2 .left)
+returns-3 c =
+    let at-wide = c .before .before in
+    let at-start = at-wide .before in
+    same-read (at-start .args .segment) (at-start .args .word) (at-start .args .s) (at-start .args .write) (sym (at-wide .wide .ensures) ∙ c .before .if1 .left) (c .if2 .left)
 
 pub is-same-spec : {M : Type 1} → statement M
 is-same-spec = tie.close (tie.spec wide-requires returns returns-2 returns-3)

@@ -23,7 +23,10 @@ segment-len-requires c κs = search needs
 
 -- src/add.rt:87:1
 returns-3 : tie.Need-returns-3
-returns-3 c = (c .segment-len .ensures ∙ sym (ap lenOf (node-in (c .before .before .before .args .nodes .now) (c .before .before .before .args .count) (c .before .before .before .args .s) (c .before .before .if1 .left) (c .before .if2 .left))), λ h. (c .before .before .if1 .left, c .before .if2 .left))
+returns-3 c =
+    let at-if1 = c .before .before in
+    let at-start = at-if1 .before in
+    (c .segment-len .ensures ∙ sym (ap lenOf (node-in (at-start .args .nodes .now) (at-start .args .count) (at-start .args .s) (at-if1 .if1 .left) (c .before .if2 .left))), λ h. (at-if1 .if1 .left, c .before .if2 .left))
 
 pub len-of-spec : {M : Type 1} → statement M
 len-of-spec = tie.close (tie.spec returns returns-2 segment-len-requires returns-3)

@@ -40,7 +40,9 @@ loop-less c = search needs
 
 -- src/bad.rt:45:5
 loop-again : tie.Need-loop-again Inv-loop μ-loop
-loop-again c = (search needs, search needs, search needs, c .before .before .before .loop .inv .3, bad-miss _ _ _ (search needs) (sym (c .before .is-bad .ensures) ∙ c .if1 .left) ∙ c .before .before .before .loop .inv .4)
+loop-again c =
+    let at-loop = c .before .before .before in
+    (search needs, search needs, search needs, at-loop .loop .inv .3, bad-miss _ _ _ (search needs) (sym (c .before .is-bad .ensures) ∙ c .if1 .left) ∙ at-loop .loop .inv .4)
 
 -- src/bad.rt:40:1
 returns-2 : tie.Need-returns-2 Inv-loop μ-loop

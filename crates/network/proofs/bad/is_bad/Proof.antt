@@ -25,11 +25,18 @@ field-requires-2 c κs = search needs
 
 -- src/bad.rt:20:9
 returns-2 : tie.Need-returns-2
-returns-2 c = bad-zero (c .before .before .before .before .args .nodes .now) (c .before .before .before .before .args .count) (c .before .before .before .before .args .k) (omega (arith, c .before .before .before .field .ensures)) (omega (arith, c .before .field2 .ensures))
+returns-2 c =
+    let at-field = c .before .before .before in
+    let at-start = at-field .before in
+    bad-zero (at-start .args .nodes .now) (at-start .args .count) (at-start .args .k) (omega (arith, at-field .field .ensures)) (omega (arith, c .before .field2 .ensures))
 
 -- src/bad.rt:23:9
 returns-3 : tie.Need-returns-3
-returns-3 c = bad-beyond (c .before .before .before .before .before .args .nodes .now) (c .before .before .before .before .before .args .count) (c .before .before .before .before .before .args .k) (omega (arith, c .before .before .before .before .field .ensures)) (omega (arith, c .before .before .field2 .ensures))
+returns-3 c =
+    let at-field2 = c .before .before in
+    let at-field = at-field2 .before .before in
+    let at-start = at-field .before in
+    bad-beyond (at-start .args .nodes .now) (at-start .args .count) (at-start .args .k) (omega (arith, at-field .field .ensures)) (omega (arith, at-field2 .field2 .ensures))
 
 -- src/bad.rt:25:8
 field-requires-3 : tie.Need-field-requires-3
@@ -37,7 +44,11 @@ field-requires-3 c κs = search needs
 
 -- src/bad.rt:26:9
 returns-4 : tie.Need-returns-4
-returns-4 c = bad-plain (c .before .before .before .before .before .before .before .args .nodes .now) (c .before .before .before .before .before .before .before .args .count) (c .before .before .before .before .before .before .before .args .k) (omega (arith, c .before .before .before .before .before .before .field .ensures)) (omega (arith, c .before .before .before .before .field2 .ensures)) (omega (arith, c .before .before .before .before .field2 .ensures)) (λ z. c .if4 .taken ((c .before .field3 .ensures ∙ ap (λ (s : ℕ). fieldAt (c .before .before .before .before .before .before .before .args .nodes .now) s 0) (c .before .before .before .before .field2 .ensures)) ∙ z))
+returns-4 c =
+    let at-field2 = c .before .before .before .before in
+    let at-field = at-field2 .before .before in
+    let at-start = at-field .before in
+    bad-plain (at-start .args .nodes .now) (at-start .args .count) (at-start .args .k) (omega (arith, at-field .field .ensures)) (omega (arith, at-field2 .field2 .ensures)) (omega (arith, at-field2 .field2 .ensures)) (λ z. c .if4 .taken ((c .before .field3 .ensures ∙ ap (λ (s : ℕ). fieldAt (at-start .args .nodes .now) s 0) (at-field2 .field2 .ensures)) ∙ z))
 
 -- src/bad.rt:28:9
 field-requires-4 : tie.Need-field-requires-4
@@ -49,11 +60,25 @@ field-requires-5 c κs = search needs
 
 -- src/bad.rt:31:9
 returns-5 : tie.Need-returns-5
-returns-5 c = rw ((c .before .before .field4 .ensures ∙ ap (λ (s : ℕ). fieldAt (c .before .before .before .before .before .before .before .before .before .before .args .nodes .now) s 2) (c .before .before .before .before .before .before .before .field2 .ensures)), c .before .field5 .ensures) (bad-one (c .before .before .before .before .before .before .before .before .before .before .args .nodes .now) (c .before .before .before .before .before .before .before .before .before .before .args .count) (c .before .before .before .before .before .before .before .before .before .before .args .k) (omega (arith, c .before .before .before .before .before .before .before .before .before .field .ensures)) (omega (arith, c .before .before .before .before .before .before .before .field2 .ensures)) (omega (arith, c .before .before .before .before .before .before .before .field2 .ensures)) (sym (c .before .before .before .before .field3 .ensures ∙ ap (λ (s : ℕ). fieldAt (c .before .before .before .before .before .before .before .before .before .before .args .nodes .now) s 0) (c .before .before .before .before .before .before .before .field2 .ensures)) ∙ c .before .before .before .if4 .left) (sym (c .before .before .before .before .before .before .before .before .before .field .ensures) ∙ c .if5 .taken))
+returns-5 c =
+    let at-field4 = c .before .before in
+    let at-if4 = at-field4 .before in
+    let at-field3 = at-if4 .before in
+    let at-field2 = at-field3 .before .before .before in
+    let at-field = at-field2 .before .before in
+    let at-start = at-field .before in
+    rw ((at-field4 .field4 .ensures ∙ ap (λ (s : ℕ). fieldAt (at-start .args .nodes .now) s 2) (at-field2 .field2 .ensures)), c .before .field5 .ensures) (bad-one (at-start .args .nodes .now) (at-start .args .count) (at-start .args .k) (omega (arith, at-field .field .ensures)) (omega (arith, at-field2 .field2 .ensures)) (omega (arith, at-field2 .field2 .ensures)) (sym (at-field3 .field3 .ensures ∙ ap (λ (s : ℕ). fieldAt (at-start .args .nodes .now) s 0) (at-field2 .field2 .ensures)) ∙ at-if4 .if4 .left) (sym (at-field .field .ensures) ∙ c .if5 .taken))
 
 -- src/bad.rt:34:9
 returns-6 : tie.Need-returns-6
-returns-6 c = bad-empty (c .before .before .before .before .before .before .before .before .before .before .before .args .nodes .now) (c .before .before .before .before .before .before .before .before .before .before .before .args .count) (c .before .before .before .before .before .before .before .before .before .before .before .args .k) (omega (arith, c .before .before .before .before .before .before .before .before .before .before .field .ensures)) (omega (arith, c .before .before .before .before .before .before .before .before .field2 .ensures)) (omega (arith, c .before .before .before .before .before .before .before .before .field2 .ensures)) (sym (c .before .before .before .before .before .field3 .ensures ∙ ap (λ (s : ℕ). fieldAt (c .before .before .before .before .before .before .before .before .before .before .before .args .nodes .now) s 0) (c .before .before .before .before .before .before .before .before .field2 .ensures)) ∙ c .before .before .before .before .if4 .left) (λ z. c .before .if5 .left (c .before .before .before .before .before .before .before .before .before .before .field .ensures ∙ z)) (sym (c .before .before .before .field4 .ensures ∙ ap (λ (s : ℕ). fieldAt (c .before .before .before .before .before .before .before .before .before .before .before .args .nodes .now) s 2) (c .before .before .before .before .before .before .before .before .field2 .ensures)) ∙ c .if6 .taken)
+returns-6 c =
+    let at-field4 = c .before .before .before in
+    let at-if4 = at-field4 .before in
+    let at-field3 = at-if4 .before in
+    let at-field2 = at-field3 .before .before .before in
+    let at-field = at-field2 .before .before in
+    let at-start = at-field .before in
+    bad-empty (at-start .args .nodes .now) (at-start .args .count) (at-start .args .k) (omega (arith, at-field .field .ensures)) (omega (arith, at-field2 .field2 .ensures)) (omega (arith, at-field2 .field2 .ensures)) (sym (at-field3 .field3 .ensures ∙ ap (λ (s : ℕ). fieldAt (at-start .args .nodes .now) s 0) (at-field2 .field2 .ensures)) ∙ at-if4 .if4 .left) (λ z. c .before .if5 .left (at-field .field .ensures ∙ z)) (sym (at-field4 .field4 .ensures ∙ ap (λ (s : ℕ). fieldAt (at-start .args .nodes .now) s 2) (at-field2 .field2 .ensures)) ∙ c .if6 .taken)
 
 -- src/bad.rt:36:5
 sub-result : tie.Need-sub-result
@@ -61,7 +86,15 @@ sub-result c = search needs
 
 -- src/bad.rt:10:1
 returns-7 : tie.Need-returns-7
-returns-7 c = rw ((c .before .before .before .field4 .ensures ∙ ap (λ (s : ℕ). fieldAt (c .before .before .before .before .before .before .before .before .before .before .before .args .nodes .now) s 2) (c .before .before .before .before .before .before .before .before .field2 .ensures)), c .before .before .field5 .ensures) (bad-two (c .before .before .before .before .before .before .before .before .before .before .before .args .nodes .now) (c .before .before .before .before .before .before .before .before .before .before .before .args .count) (c .before .before .before .before .before .before .before .before .before .before .before .args .k) (omega (arith, c .before .before .before .before .before .before .before .before .before .before .field .ensures)) (omega (arith, c .before .before .before .before .before .before .before .before .field2 .ensures)) (omega (arith, c .before .before .before .before .before .before .before .before .field2 .ensures)) (sym (c .before .before .before .before .before .field3 .ensures ∙ ap (λ (s : ℕ). fieldAt (c .before .before .before .before .before .before .before .before .before .before .before .args .nodes .now) s 0) (c .before .before .before .before .before .before .before .before .field2 .ensures)) ∙ c .before .before .before .before .if4 .left) (λ z. c .before .if5 .left (c .before .before .before .before .before .before .before .before .before .before .field .ensures ∙ z)) (λ z. c .if6 .left ((c .before .before .before .field4 .ensures ∙ ap (λ (s : ℕ). fieldAt (c .before .before .before .before .before .before .before .before .before .before .before .args .nodes .now) s 2) (c .before .before .before .before .before .before .before .before .field2 .ensures)) ∙ z)))
+returns-7 c =
+    let at-field5 = c .before .before in
+    let at-field4 = at-field5 .before in
+    let at-if4 = at-field4 .before in
+    let at-field3 = at-if4 .before in
+    let at-field2 = at-field3 .before .before .before in
+    let at-field = at-field2 .before .before in
+    let at-start = at-field .before in
+    rw ((at-field4 .field4 .ensures ∙ ap (λ (s : ℕ). fieldAt (at-start .args .nodes .now) s 2) (at-field2 .field2 .ensures)), at-field5 .field5 .ensures) (bad-two (at-start .args .nodes .now) (at-start .args .count) (at-start .args .k) (omega (arith, at-field .field .ensures)) (omega (arith, at-field2 .field2 .ensures)) (omega (arith, at-field2 .field2 .ensures)) (sym (at-field3 .field3 .ensures ∙ ap (λ (s : ℕ). fieldAt (at-start .args .nodes .now) s 0) (at-field2 .field2 .ensures)) ∙ at-if4 .if4 .left) (λ z. c .before .if5 .left (at-field .field .ensures ∙ z)) (λ z. c .if6 .left ((at-field4 .field4 .ensures ∙ ap (λ (s : ℕ). fieldAt (at-start .args .nodes .now) s 2) (at-field2 .field2 .ensures)) ∙ z)))
 
 pub is-bad-spec : {M : Type 1} → statement M
 is-bad-spec =

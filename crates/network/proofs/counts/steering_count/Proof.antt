@@ -43,7 +43,9 @@ steering-in-requires c κs = let h = c .before .before .before .loop .inv .5 (c 
 
 -- src/counts.rt:33:9
 add-sum : tie.Need-add-sum Inv-loop μ-loop
-add-sum c = let h = c .before .before .before .before .loop .inv .5 (c .before .before .before .before .loop .s) (search needs) (search needs) in let r = c .steering-in .ensures .1 in let q = c .before .segment-len .ensures in search needs
+add-sum c =
+    let at-loop = c .before .before .before .before in
+    let h = at-loop .loop .inv .5 (at-loop .loop .s) (search needs) (search needs) in let r = c .steering-in .ensures .1 in let q = c .before .segment-len .ensures in search needs
 
 -- src/counts.rt:34:9
 add-s : tie.Need-add-s Inv-loop μ-loop
@@ -55,11 +57,16 @@ loop-less c = search needs
 
 -- src/counts.rt:32:5
 loop-again : tie.Need-loop-again Inv-loop μ-loop
-loop-again c = let h = c .before .before .before .before .loop .inv .5 (c .before .before .before .before .loop .s) (search needs) (search needs) in let k = sum-step (c .before .before .before .before .before .args .nodes .now) (c .before .before .before .before .before .args .steering .now) (c .before .before .before .before .loop .s) (c .before .before .before .before .before .args .count) (search needs) in (search needs, search needs, search needs, omega (arith, h, c .steering-in .ensures .1, c .before .segment-len .ensures, c .before .before .before .before .loop .inv .3), omega (arith, c .before .before .before .before .loop .inv .4, c .steering-in .ensures .0, ap (countIn (getD (c .before .before .before .before .before .args .steering .now) (c .before .before .before .before .loop .s) 0) 0) (c .before .segment-len .ensures), k), c .before .before .before .before .loop .inv .5)
+loop-again c =
+    let at-loop = c .before .before .before .before in
+    let at-start = at-loop .before in
+    let h = at-loop .loop .inv .5 (at-loop .loop .s) (search needs) (search needs) in let k = sum-step (at-start .args .nodes .now) (at-start .args .steering .now) (at-loop .loop .s) (at-start .args .count) (search needs) in (search needs, search needs, search needs, omega (arith, h, c .steering-in .ensures .1, c .before .segment-len .ensures, at-loop .loop .inv .3), omega (arith, at-loop .loop .inv .4, c .steering-in .ensures .0, ap (countIn (getD (at-start .args .steering .now) (at-loop .loop .s) 0) 0) (c .before .segment-len .ensures), k), at-loop .loop .inv .5)
 
 -- src/counts.rt:26:1
 returns : tie.Need-returns Inv-loop μ-loop
-returns c = let k = sum-end (c .before .before .args .nodes .now) (c .before .before .args .steering .now) (c .before .loop .s) (c .before .before .args .count) (search needs) in omega (arith, c .before .loop .inv .4, k)
+returns c =
+    let at-start = c .before .before in
+    let k = sum-end (at-start .args .nodes .now) (at-start .args .steering .now) (c .before .loop .s) (at-start .args .count) (search needs) in omega (arith, c .before .loop .inv .4, k)
 
 pub steering-count-spec : {M : Type 1} → statement M
 steering-count-spec =

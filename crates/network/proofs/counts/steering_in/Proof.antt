@@ -39,7 +39,10 @@ loop-less c = search needs
 
 -- src/counts.rt:18:5
 loop-again : tie.Need-loop-again Inv-loop μ-loop
-loop-again c = let e = value-most (wordBit (c .before .before .before .args .word) (c .before .before .loop .b)) in let k = count-step (c .before .before .before .args .word) (c .before .before .loop .b) (c .before .before .before .args .len) (search needs) in (search needs, search needs, search needs, omega (arith, c .before .before .loop .inv .3, c .bit-at .ensures, k))
+loop-again c =
+    let at-loop = c .before .before in
+    let at-start = at-loop .before in
+    let e = value-most (wordBit (at-start .args .word) (at-loop .loop .b)) in let k = count-step (at-start .args .word) (at-loop .loop .b) (at-start .args .len) (search needs) in (search needs, search needs, search needs, omega (arith, at-loop .loop .inv .3, c .bit-at .ensures, k))
 
 -- src/counts.rt:12:1
 returns : tie.Need-returns Inv-loop μ-loop

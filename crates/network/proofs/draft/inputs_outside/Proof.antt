@@ -12,23 +12,35 @@ returns c = any-first (c .before .args .n) (c .before .args .count) (c .before .
 
 -- src/draft.rt:33:9
 returns-2 : tie.Need-returns-2
-returns-2 c = any-second (c .before .before .args .n) (c .before .before .args .count) (c .before .before .args .a) (c .before .before .args .b) (c .before .before .args .c) (c .before .before .args .d) (search needs) (search needs) (search needs) (search needs)
+returns-2 c =
+    let at-start = c .before .before in
+    any-second (at-start .args .n) (at-start .args .count) (at-start .args .a) (at-start .args .b) (at-start .args .c) (at-start .args .d) (search needs) (search needs) (search needs) (search needs)
 
 -- src/draft.rt:36:9
 returns-3 : tie.Need-returns-3
-returns-3 c = none-of-two (c .before .before .before .args .n) (c .before .before .before .args .count) (c .before .before .before .args .a) (c .before .before .before .args .b) (c .before .before .before .args .c) (c .before .before .before .args .d) (search needs) (search needs) (search needs) (search needs) (search needs)
+returns-3 c =
+    let at-start = c .before .before .before in
+    none-of-two (at-start .args .n) (at-start .args .count) (at-start .args .a) (at-start .args .b) (at-start .args .c) (at-start .args .d) (search needs) (search needs) (search needs) (search needs) (search needs)
 
 -- src/draft.rt:39:9
 returns-4 : tie.Need-returns-4
-returns-4 c = any-third (c .before .before .before .before .args .n) (c .before .before .before .before .args .count) (c .before .before .before .before .args .a) (c .before .before .before .before .args .b) (c .before .before .before .before .args .c) (c .before .before .before .before .args .d) (search needs) (search needs) (search needs) (search needs) (c .before .if3 .left) (search needs)
+returns-4 c =
+    let at-start = c .before .before .before .before in
+    any-third (at-start .args .n) (at-start .args .count) (at-start .args .a) (at-start .args .b) (at-start .args .c) (at-start .args .d) (search needs) (search needs) (search needs) (search needs) (c .before .if3 .left) (search needs)
 
 -- src/draft.rt:42:9
 returns-5 : tie.Need-returns-5
-returns-5 c = none-of-three (c .before .before .before .before .before .args .n) (c .before .before .before .before .before .args .count) (c .before .before .before .before .before .args .a) (c .before .before .before .before .before .args .b) (c .before .before .before .before .before .args .c) (c .before .before .before .before .before .args .d) (search needs) (search needs) (search needs) (search needs) (c .before .before .if3 .left) (search needs) (search needs)
+returns-5 c =
+    let at-if3 = c .before .before in
+    let at-start = at-if3 .before .before .before in
+    none-of-three (at-start .args .n) (at-start .args .count) (at-start .args .a) (at-start .args .b) (at-start .args .c) (at-start .args .d) (search needs) (search needs) (search needs) (search needs) (at-if3 .if3 .left) (search needs) (search needs)
 
 -- src/draft.rt:25:1
 returns-6 : tie.Need-returns-6
-returns-6 c = any-last (c .before .before .before .before .before .args .n) (c .before .before .before .before .before .args .count) (c .before .before .before .before .before .args .a) (c .before .before .before .before .before .args .b) (c .before .before .before .before .before .args .c) (c .before .before .before .before .before .args .d) (search needs) (search needs) (search needs) (search needs) (c .before .before .if3 .left) (search needs) (c .if5 .left)
+returns-6 c =
+    let at-if3 = c .before .before in
+    let at-start = at-if3 .before .before .before in
+    any-last (at-start .args .n) (at-start .args .count) (at-start .args .a) (at-start .args .b) (at-start .args .c) (at-start .args .d) (search needs) (search needs) (search needs) (search needs) (at-if3 .if3 .left) (search needs) (c .if5 .left)
 
 pub inputs-outside-spec : {M : Type 1} → statement M
 inputs-outside-spec =

@@ -13,11 +13,17 @@ enum-known-x c = search needs
 
 -- src/draft.rt:55:17
 returns : tie.Need-returns
-returns c = rw (c .before .before .x .given .1) (outside-from (c .before .before .before .before .args .n) (c .before .before .x .given .0 .0) (c .before .before .x .given .0 .1 .0) (c .before .before .x .given .0 .1 .1 .0) (c .if1 .taken))
+returns c =
+    let at-x = c .before .before in
+    let at-start = at-x .before .before in
+    rw (at-x .x .given .1) (outside-from (at-start .args .n) (at-x .x .given .0 .0) (at-x .x .given .0 .1 .0) (at-x .x .given .0 .1 .1 .0) (c .if1 .taken))
 
 -- src/draft.rt:58:17
 returns-2 : tie.Need-returns-2
-returns-2 c = rw (c .before .before .before .x .given .1) (outside-short (c .before .before .before .before .before .args .n) (c .before .before .before .x .given .0 .0) (c .before .before .before .x .given .0 .1 .0) (c .before .before .before .x .given .0 .1 .1 .0) (c .before .if1 .left) (c .if2 .taken))
+returns-2 c =
+    let at-x = c .before .before .before in
+    let at-start = at-x .before .before in
+    rw (at-x .x .given .1) (outside-short (at-start .args .n) (at-x .x .given .0 .0) (at-x .x .given .0 .1 .0) (at-x .x .given .0 .1 .1 .0) (c .before .if1 .left) (c .if2 .taken))
 
 -- src/draft.rt:62:49
 enum-known-x-2 : tie.Need-enum-known-x-2
@@ -29,7 +35,10 @@ inputs-outside-requires c κs = let p = rw (c .before .x2 .given .1) at (c .befo
 
 -- src/draft.rt:48:1
 returns-3 : tie.Need-returns-3
-returns-3 c = rw (c .before .before .before .x .given .1) (outside-long (c .before .before .before .before .before .args .n) (c .before .before .before .x .given .0 .0) (c .before .before .before .x .given .0 .1 .0) (c .before .before .before .x .given .0 .1 .1 .0) (c .before .if1 .left) (c .if2 .left))
+returns-3 c =
+    let at-x = c .before .before .before in
+    let at-start = at-x .before .before in
+    rw (at-x .x .given .1) (outside-long (at-start .args .n) (at-x .x .given .0 .0) (at-x .x .given .0 .1 .0) (at-x .x .given .0 .1 .1 .0) (c .before .if1 .left) (c .if2 .left))
 
 -- src/draft.rt:48:1
 returns-4 : tie.Need-returns-4

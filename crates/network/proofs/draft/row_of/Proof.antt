@@ -54,15 +54,29 @@ narrow-requires-8 c κs = let p = rw (c .before .before .before .before .before 
 
 -- src/draft.rt:113:13
 narrow-requires-9 : tie.Need-narrow-requires-9
-narrow-requires-9 c κs = let p = rw (c .before .before .before .before .before .before .before .x2 .given .1) at (c .before .before .before .before .before .before .before .before .before .pre) in p .7
+narrow-requires-9 c κs =
+    let at-x2 = c .before .before .before .before .before .before .before in
+    let at-start = at-x2 .before .before in
+    let p = rw (at-x2 .x2 .given .1) at (at-start .pre) in p .7
 
 -- src/draft.rt:97:1
 returns : tie.Need-returns
-returns c = rw (c .before .before .before .before .x .given .1, c .before .before .flag-of .ensures, c .before .narrow .ensures, c .narrow2 .ensures) (segment-row (c .before .before .before .before .x .given .0 .0) (c .before .before .before .before .x .given .0 .1 .0) (c .before .before .before .before .x .given .0 .1 .1 .0))
+returns c =
+    let at-flag-of = c .before .before in
+    let at-x = at-flag-of .before .before in
+    rw (at-x .x .given .1, at-flag-of .flag-of .ensures, c .before .narrow .ensures, c .narrow2 .ensures) (segment-row (at-x .x .given .0 .0) (at-x .x .given .0 .1 .0) (at-x .x .given .0 .1 .1 .0))
 
 -- src/draft.rt:97:1
 returns-2 : tie.Need-returns-2
-returns-2 c = let p = rw (c .before .before .before .before .before .before .before .before .x2 .given .1) at (c .before .before .before .before .before .before .before .before .before .before .pre) in rw (c .before .before .before .before .before .before .before .before .x2 .given .1, c .before .before .before .before .before .before .narrow3 .ensures, c .before .before .before .before .before .narrow4 .ensures, c .before .before .before .before .narrow5 .ensures, c .before .before .before .narrow6 .ensures, c .before .before .narrow7 .ensures, c .before .narrow8 .ensures, c .narrow9 .ensures) (mux-row (c .before .before .before .before .before .before .before .before .x2 .given .0 .1 .1 .0) (c .before .before .before .before .before .before .before .before .x2 .given .0 .0) (c .before .before .before .before .before .before .before .before .x2 .given .0 .1 .0) (c .before .before .before .before .before .before .before .before .x2 .given .0 .1 .1 .1 .0) (c .before .before .before .before .before .before .before .before .x2 .given .0 .1 .1 .1 .1 .0) (c .before .before .before .before .before .before .before .before .x2 .given .0 .1 .1 .1 .1 .1 .0) (c .before .before .before .before .before .before .before .before .x2 .given .0 .1 .1 .1 .1 .1 .1 .0) (p .2) (p .3))
+returns-2 c =
+    let at-narrow7 = c .before .before in
+    let at-narrow6 = at-narrow7 .before in
+    let at-narrow5 = at-narrow6 .before in
+    let at-narrow4 = at-narrow5 .before in
+    let at-narrow3 = at-narrow4 .before in
+    let at-x2 = at-narrow3 .before .before in
+    let at-start = at-x2 .before .before in
+    let p = rw (at-x2 .x2 .given .1) at (at-start .pre) in rw (at-x2 .x2 .given .1, at-narrow3 .narrow3 .ensures, at-narrow4 .narrow4 .ensures, at-narrow5 .narrow5 .ensures, at-narrow6 .narrow6 .ensures, at-narrow7 .narrow7 .ensures, c .before .narrow8 .ensures, c .narrow9 .ensures) (mux-row (at-x2 .x2 .given .0 .1 .1 .0) (at-x2 .x2 .given .0 .0) (at-x2 .x2 .given .0 .1 .0) (at-x2 .x2 .given .0 .1 .1 .1 .0) (at-x2 .x2 .given .0 .1 .1 .1 .1 .0) (at-x2 .x2 .given .0 .1 .1 .1 .1 .1 .0) (at-x2 .x2 .given .0 .1 .1 .1 .1 .1 .1 .0) (p .2) (p .3))
 
 pub row-of-spec : {M : Type 1} → statement M
 row-of-spec =

@@ -61,10 +61,13 @@ plain-requires-2 c κs = search needs
 
 returns-2 : tie.Need-returns-2
 returns-2 c =
+    let at-number = c .before .before .before in
+    let at-if1 = at-number .before in
+    let at-start = at-if1 .before .before in
     plain-line _ _ _ _ (c .plain2 .ensures)
     (wrong
-    (bits-number _ (sym (c .before .before .before .before .before .before .pre .counted) ∙ c .before .before .before .before .if1 .left) (c .before .before .before .before .before .before .args .unknown)
-    (read-as (c .before .before .before .number .ensures) (c .before .enum-told .given .1))))
+    (bits-number _ (sym (at-start .pre .counted) ∙ at-if1 .if1 .left) (at-start .args .unknown)
+    (read-as (at-number .number .ensures) (c .before .enum-told .given .1))))
 
 element-copy-out-start : tie.Need-element-copy-out-start
 element-copy-out-start c = search needs

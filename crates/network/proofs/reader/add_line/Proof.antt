@@ -35,7 +35,11 @@ enum-known-entry c = search needs
 
 -- src/reader.rt:68:27
 add-node-requires : tie.Need-add-node-requires
-add-node-requires c κs = ((entry-good (c .before .before .before .before .before .before .before .args .line .now) (c .before .before .before .before .before .parse .result) (c .before .before .before .before .before .parse .ensures) _ (c .before .before .before .entry .given .1)), c .before .before .before .before .before .before .before .pre .1 .tame, c .before .before .before .before .before .before .before .pre .1 .sized .nodes, c .before .before .before .before .before .before .before .pre .1 .sized .steering-words)
+add-node-requires c κs =
+    let at-entry = c .before .before .before in
+    let at-parse = at-entry .before .before in
+    let at-start = at-parse .before .before in
+    ((entry-good (at-start .args .line .now) (at-parse .parse .result) (at-parse .parse .ensures) _ (at-entry .entry .given .1)), at-start .pre .1 .tame, at-start .pre .1 .sized .nodes, at-start .pre .1 .sized .steering-words)
 
 -- src/reader.rt:69:20
 enum-known-entry-2 : tie.Need-enum-known-entry-2
@@ -43,7 +47,9 @@ enum-known-entry-2 c = search needs
 
 -- src/reader.rt:69:26
 add-out-requires : tie.Need-add-out-requires
-add-out-requires c κs = (c .before .before .before .before .before .before .pre .1 .tame, drawn-formed (c .before .before .before .before .before .before .args .nodes .now) (c .before .before .before .before .before .before .args .bits .now) (c .before .before .before .before .before .before .args .known .now) (c .before .before .before .before .before .before .args .steering .now) (c .before .before .before .before .before .before .args .held .now) (c .before .before .before .before .before .before .args .t) (c .before .before .before .before .before .before .pre .0) (c .before .before .before .before .before .before .args .n) (c .before .before .before .before .before .before .pre .1))
+add-out-requires c κs =
+    let at-start = c .before .before .before .before .before .before in
+    (at-start .pre .1 .tame, drawn-formed (at-start .args .nodes .now) (at-start .args .bits .now) (at-start .args .known .now) (at-start .args .steering .now) (at-start .args .held .now) (at-start .args .t) (at-start .pre .0) (at-start .args .n) (at-start .pre .1))
 
 -- src/reader.rt:70:21
 enum-known-entry-3 : tie.Need-enum-known-entry-3
@@ -63,7 +69,9 @@ part-add-hold-end c = search needs
 
 -- src/reader.rt:71:17
 add-hold-requires : tie.Need-add-hold-requires
-add-hold-requires c κs = (c .before .before .before .before .before .before .before .before .before .before .pre .1 .tame, drawn-words (c .before .before .before .before .before .before .before .before .before .before .args .nodes .now) (c .before .before .before .before .before .before .before .before .before .before .args .bits .now) (c .before .before .before .before .before .before .before .before .before .before .args .known .now) (c .before .before .before .before .before .before .before .before .before .before .args .steering .now) (c .before .before .before .before .before .before .before .before .before .before .args .held .now) (c .before .before .before .before .before .before .before .before .before .before .args .t) (c .before .before .before .before .before .before .before .before .before .before .pre .0) (c .before .before .before .before .before .before .before .before .before .before .args .n) (c .before .before .before .before .before .before .before .before .before .before .pre .1), c .before .before .before .before .before .before .before .before .before .before .pre .1 .sized .bit-words, c .before .before .before .before .before .before .before .before .before .before .pre .1 .sized .known-words, c .before .before .before .before .before .before .before .before .before .before .pre .1 .sized .held-flags)
+add-hold-requires c κs =
+    let at-start = c .before .before .before .before .before .before .before .before .before .before in
+    (at-start .pre .1 .tame, drawn-words (at-start .args .nodes .now) (at-start .args .bits .now) (at-start .args .known .now) (at-start .args .steering .now) (at-start .args .held .now) (at-start .args .t) (at-start .pre .0) (at-start .args .n) (at-start .pre .1), at-start .pre .1 .sized .bit-words, at-start .pre .1 .sized .known-words, at-start .pre .1 .sized .held-flags)
 
 -- src/reader.rt:72:13
 answer-requires-2 : tie.Need-answer-requires-2
@@ -87,7 +95,9 @@ part-add-write-end c = search needs
 
 -- src/reader.rt:74:28
 add-write-requires : tie.Need-add-write-requires
-add-write-requires c κs = (c .before .before .before .before .before .before .before .before .pre .1 .tame, drawn-words (c .before .before .before .before .before .before .before .before .args .nodes .now) (c .before .before .before .before .before .before .before .before .args .bits .now) (c .before .before .before .before .before .before .before .before .args .known .now) (c .before .before .before .before .before .before .before .before .args .steering .now) (c .before .before .before .before .before .before .before .before .args .held .now) (c .before .before .before .before .before .before .before .before .args .t) (c .before .before .before .before .before .before .before .before .pre .0) (c .before .before .before .before .before .before .before .before .args .n) (c .before .before .before .before .before .before .before .before .pre .1))
+add-write-requires c κs =
+    let at-start = c .before .before .before .before .before .before .before .before in
+    (at-start .pre .1 .tame, drawn-words (at-start .args .nodes .now) (at-start .args .bits .now) (at-start .args .known .now) (at-start .args .steering .now) (at-start .args .held .now) (at-start .args .t) (at-start .pre .0) (at-start .args .n) (at-start .pre .1))
 
 -- src/reader.rt:75:21
 enum-known-entry-5 : tie.Need-enum-known-entry-5
@@ -99,27 +109,50 @@ add-read-requires c κs = search needs
 
 -- src/reader.rt:49:1
 returns : tie.Need-returns
-returns c = λ d w. agrees-refused _ _ _ 1 (c .before .before .before .before .before .args .n) (ap (addLine d (c .before .before .before .before .before .args .n)) (line-is (c .before .before .before .before .before .args .line .now) (c .before .before .before .parse .result) (c .before .before .before .parse .ensures) _ (c .before .enum-told .given .1))) (c .answer .ensures .0)
+returns c =
+    let at-parse = c .before .before .before in
+    let at-start = at-parse .before .before in
+    λ d w. agrees-refused _ _ _ 1 (at-start .args .n) (ap (addLine d (at-start .args .n)) (line-is (at-start .args .line .now) (at-parse .parse .result) (at-parse .parse .ensures) _ (c .before .enum-told .given .1))) (c .answer .ensures .0)
 
 -- src/reader.rt:49:1
 returns-2 : tie.Need-returns-2
-returns-2 c = λ d w. agrees-same _ _ _ _ (ap (addLine d (c .before .before .before .before .before .before .before .before .args .n)) (line-is (c .before .before .before .before .before .before .before .before .args .line .now) (c .before .before .before .before .before .before .parse .result) (c .before .before .before .before .before .before .parse .ensures) _ (c .before .before .before .before .entry .given .1))) (c .add-node .ensures (c .before .before .before .before .before .before .before .before .args .bits .now) (c .before .before .before .before .before .before .before .before .args .known .now) (c .before .before .before .before .before .before .before .before .args .held .now) d w)
+returns-2 c =
+    let at-entry = c .before .before .before .before in
+    let at-parse = at-entry .before .before in
+    let at-start = at-parse .before .before in
+    λ d w. agrees-same _ _ _ _ (ap (addLine d (at-start .args .n)) (line-is (at-start .args .line .now) (at-parse .parse .result) (at-parse .parse .ensures) _ (at-entry .entry .given .1))) (c .add-node .ensures (at-start .args .bits .now) (at-start .args .known .now) (at-start .args .held .now) d w)
 
 -- src/reader.rt:49:1
 returns-3 : tie.Need-returns-3
-returns-3 c = λ d w. agrees-same _ _ _ _ (ap (addLine d (c .before .before .before .before .before .before .before .args .n)) (line-is (c .before .before .before .before .before .before .before .args .line .now) (c .before .before .before .before .before .parse .result) (c .before .before .before .before .before .parse .ensures) _ (c .before .before .before .entry2 .given .1))) (c .add-out .ensures (c .before .before .before .before .before .before .before .args .bits .now) (c .before .before .before .before .before .before .before .args .known .now) (c .before .before .before .before .before .before .before .args .steering .now) (c .before .before .before .before .before .before .before .args .held .now) d w)
+returns-3 c =
+    let at-entry2 = c .before .before .before in
+    let at-parse = at-entry2 .before .before in
+    let at-start = at-parse .before .before in
+    λ d w. agrees-same _ _ _ _ (ap (addLine d (at-start .args .n)) (line-is (at-start .args .line .now) (at-parse .parse .result) (at-parse .parse .ensures) _ (at-entry2 .entry2 .given .1))) (c .add-out .ensures (at-start .args .bits .now) (at-start .args .known .now) (at-start .args .steering .now) (at-start .args .held .now) d w)
 
 -- src/reader.rt:49:1
 returns-4 : tie.Need-returns-4
-returns-4 c = λ d w. rw (c .answer2 .ensures .0, c .answer2 .ensures .1) (agrees-same _ _ _ _ (ap (addLine d (c .before .before .before .before .before .before .before .before .before .before .before .before .args .n)) (line-is (c .before .before .before .before .before .before .before .before .before .before .before .before .args .line .now) (c .before .before .before .before .before .before .before .before .before .before .parse .result) (c .before .before .before .before .before .before .before .before .before .before .parse .ensures) _ (c .before .before .before .before .before .before .before .before .entry3 .given .1))) (c .before .add-hold .ensures (c .before .before .before .before .before .before .before .before .before .before .before .before .args .steering .now) d ((entry-good (c .before .before .before .before .before .before .before .before .before .before .before .before .args .line .now) (c .before .before .before .before .before .before .before .before .before .before .parse .result) (c .before .before .before .before .before .before .before .before .before .before .parse .ensures) _ (c .before .before .before .before .before .before .before .before .entry3 .given .1)) .1) w))
+returns-4 c =
+    let at-entry3 = c .before .before .before .before .before .before .before .before in
+    let at-parse = at-entry3 .before .before in
+    let at-start = at-parse .before .before in
+    λ d w. rw (c .answer2 .ensures .0, c .answer2 .ensures .1) (agrees-same _ _ _ _ (ap (addLine d (at-start .args .n)) (line-is (at-start .args .line .now) (at-parse .parse .result) (at-parse .parse .ensures) _ (at-entry3 .entry3 .given .1))) (c .before .add-hold .ensures (at-start .args .steering .now) d ((entry-good (at-start .args .line .now) (at-parse .parse .result) (at-parse .parse .ensures) _ (at-entry3 .entry3 .given .1)) .1) w))
 
 -- src/reader.rt:49:1
 returns-5 : tie.Need-returns-5
-returns-5 c = λ d w. agrees-same _ _ _ _ (ap (addLine d (c .before .before .before .before .before .before .before .before .before .args .n)) (line-is (c .before .before .before .before .before .before .before .before .before .args .line .now) (c .before .before .before .before .before .before .before .parse .result) (c .before .before .before .before .before .before .before .parse .ensures) _ (c .before .before .before .before .before .entry4 .given .1))) (c .add-write .ensures (c .before .before .before .before .before .before .before .before .before .args .bits .now) (c .before .before .before .before .before .before .before .before .before .args .known .now) (c .before .before .before .before .before .before .before .before .before .args .held .now) d ((entry-good (c .before .before .before .before .before .before .before .before .before .args .line .now) (c .before .before .before .before .before .before .before .parse .result) (c .before .before .before .before .before .before .before .parse .ensures) _ (c .before .before .before .before .before .entry4 .given .1)) .1) w)
+returns-5 c =
+    let at-entry4 = c .before .before .before .before .before in
+    let at-parse = at-entry4 .before .before in
+    let at-start = at-parse .before .before in
+    λ d w. agrees-same _ _ _ _ (ap (addLine d (at-start .args .n)) (line-is (at-start .args .line .now) (at-parse .parse .result) (at-parse .parse .ensures) _ (at-entry4 .entry4 .given .1))) (c .add-write .ensures (at-start .args .bits .now) (at-start .args .known .now) (at-start .args .held .now) d ((entry-good (at-start .args .line .now) (at-parse .parse .result) (at-parse .parse .ensures) _ (at-entry4 .entry4 .given .1)) .1) w)
 
 -- src/reader.rt:49:1
 returns-6 : tie.Need-returns-6
-returns-6 c = λ d w. agrees-same _ _ _ _ (ap (addLine d (c .before .before .before .before .before .before .before .before .args .n)) (line-is (c .before .before .before .before .before .before .before .before .args .line .now) (c .before .before .before .before .before .before .parse .result) (c .before .before .before .before .before .before .parse .ensures) _ (c .before .before .before .before .entry5 .given .1))) (c .add-read .ensures (c .before .before .before .before .before .before .before .before .args .bits .now) (c .before .before .before .before .before .before .before .before .args .known .now) (c .before .before .before .before .before .before .before .before .args .held .now) d w)
+returns-6 c =
+    let at-entry5 = c .before .before .before .before in
+    let at-parse = at-entry5 .before .before in
+    let at-start = at-parse .before .before in
+    λ d w. agrees-same _ _ _ _ (ap (addLine d (at-start .args .n)) (line-is (at-start .args .line .now) (at-parse .parse .result) (at-parse .parse .ensures) _ (at-entry5 .entry5 .given .1))) (c .add-read .ensures (at-start .args .bits .now) (at-start .args .known .now) (at-start .args .held .now) d w)
 
 pub add-line-spec : {M : Type 1} → statement M
 add-line-spec =

@@ -14,7 +14,8 @@ empty-tally-requires c κs = search needs
 
 -- src/reader.rt:152:1
 returns : tie.Need-returns
-returns c = (refl, ap (λ (t : Tally). record { nodes = noNetwork .nodes; bits = noNetwork .bits; known = noNetwork .known; steering = noNetwork .steering; tally = t; «steering_count» = 0; «start_length» = 0 }) (c .empty-tally .ensures))
+returns c =
+    (refl, ap (λ (t : Tally). record { nodes = noNetwork .nodes; bits = noNetwork .bits; known = noNetwork .known; steering = noNetwork .steering; tally = t; «steering_count» = 0; «start_length» = 0 }) (c .empty-tally .ensures))
 
 pub rejected-spec : {M : Type 1} → statement M
 rejected-spec = tie.close (tie.spec empty-tally-requires returns)

@@ -23,7 +23,9 @@ loop-holds c = (search needs, search needs, search needs, search needs, search n
 
 -- src/start.rt:39:9
 fill-one-requires : tie.Need-fill-one-requires Inv-loop μ-loop
-fill-one-requires c κs = (search needs, c .before .before .before .loop .inv .5 .bits-size ∙ c .before .before .before .loop .inv .3, c .before .before .before .loop .inv .5 .known-size ∙ c .before .before .before .loop .inv .4)
+fill-one-requires c κs =
+    let at-loop = c .before .before .before in
+    (search needs, at-loop .loop .inv .5 .bits-size ∙ at-loop .loop .inv .3, at-loop .loop .inv .5 .known-size ∙ at-loop .loop .inv .4)
 
 -- src/start.rt:40:9
 add-s : tie.Need-add-s Inv-loop μ-loop

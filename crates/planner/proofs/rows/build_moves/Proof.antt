@@ -23,7 +23,10 @@ loop-holds c =
     (e .0, e .1, building-none _ _ _ _ _ _ _ _ _ _ (c .before .before .pre .1) (record { words = refl; marks = refl }) refl)
 
 build-row-requires : tie.Need-build-row-requires Inv-loop μ-loop
-build-row-requires c κs = let b = c .before .before .before .before .before .loop .inv in (c .before .before .before .before .before .before .before .before .pre .0, (omega arith, b .2 .long, b .2 .sized, b .2 .way-size))
+build-row-requires c κs =
+    let at-loop = c .before .before .before .before .before in
+    let at-start = at-loop .before .before .before in
+    let b = at-loop .loop .inv in (at-start .pre .0, (omega arith, b .2 .long, b .2 .sized, b .2 .way-size))
 
 add-x : tie.Need-add-x Inv-loop μ-loop
 add-x c = search needs

@@ -24,8 +24,9 @@ div-result c = power-positive _ _ (c .power-of-3 .ensures .0)
 
 returns-2 : tie.Need-returns-2
 returns-2 c =
-    let s = c .before .before .before in
-    digit-off (scanPath (s .args .nodes .now) (take (s .args .n) (s .args .way .now))) (s .args .s) (s .args .x) (s .args .j) _ _ (c .before .before .is-on .ensures) (c .before .if1 .left) (c .power-of-3 .ensures .0)
+    let at-is-on = c .before .before in
+    let s = at-is-on .before in
+    digit-off (scanPath (s .args .nodes .now) (take (s .args .n) (s .args .way .now))) (s .args .s) (s .args .x) (s .args .j) _ _ (at-is-on .is-on .ensures) (c .before .if1 .left) (c .power-of-3 .ensures .0)
 
 pub digit-off-spec : {M : Type 1} → statement M
 digit-off-spec =

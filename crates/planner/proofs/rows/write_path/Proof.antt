@@ -41,12 +41,17 @@ same-length c = search needs
 
 returns : tie.Need-returns
 returns c =
-    let s = c .before .before .before .before .before .before .before .before .before .before .before .before in
-    let o = c .before .before .before .before .before .before .before .before .before .order-of .ensures in
-    let m = c .before .before .before .before .before .before .before .before .mask-of-targets .ensures in
-    let b = c .before .before .before .before .before .before .before .base-of .ensures in
-    let w = c .before .before .before .before .before .before .power-of-2 .ensures in
-    path-row (s .args .nodes .now) (s .args .way .now) (s .args .n) (s .args .segments .now) (s .args .k) (s .args .x) (s .pre .0 .2) _ _ o _ _ (w .0) b _ _ _ _ m (same-length c ∙ s .pre .0 .4) (c .before .before .write-row .ensures)
+    let at-write-row = c .before .before in
+    let at-power-of-2 = at-write-row .before .before .before .before in
+    let at-base-of = at-power-of-2 .before in
+    let at-mask-of-targets = at-base-of .before in
+    let at-order-of = at-mask-of-targets .before in
+    let s = at-order-of .before .before .before in
+    let o = at-order-of .order-of .ensures in
+    let m = at-mask-of-targets .mask-of-targets .ensures in
+    let b = at-base-of .base-of .ensures in
+    let w = at-power-of-2 .power-of-2 .ensures in
+    path-row (s .args .nodes .now) (s .args .way .now) (s .args .n) (s .args .segments .now) (s .args .k) (s .args .x) (s .pre .0 .2) _ _ o _ _ (w .0) b _ _ _ _ m (same-length c ∙ s .pre .0 .4) (at-write-row .write-row .ensures)
 
 pub write-path-spec : {M : Type 1} → statement M
 write-path-spec =

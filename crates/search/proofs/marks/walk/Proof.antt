@@ -80,15 +80,18 @@ loop-less c = search needs
 
 loop-again : tie.Need-loop-again Inv-loop μ-loop
 loop-again c =
-    let p = c .before .before .before .before .before .before .before .before .before in
-    let l = c .before .before .before .before .loop in
+    let at-gained = c .before .before in
+    let at-loop-test = at-gained .before in
+    let at-loop = at-loop-test .before in
+    let p = at-loop .before .before .before .before .before in
+    let l = at-loop .loop in
     let f = c .before .first-choice in
     let s-lt : l .s < 11664 = l .inv .1 .within in
     let lt : f .result < count (p .args .moves .now) (l .s / 16) = found (c .before) in
     let z : f .result % 256 ≡ f .result = omega (arith, p .pre .0 .counts (l .s / 16) (omega arith)) in (
       simp length-set (l .inv .0),
       rw (z, c .leads-to .ensures .0)
-          (walking-step _ _ _ _ _ _ _ _ _ (p .pre .0) (p .pre .1 .1 .1 .0) (l .inv .1) (c .before .before .before .loop-test .taken) _ _ (ap (bitOr (l .s % 16)) (c .before .before .gained .ensures .0)) (f .ensures)),
+          (walking-step _ _ _ _ _ _ _ _ _ (p .pre .0) (p .pre .1 .1 .1 .0) (l .inv .1) (at-loop-test .loop-test .taken) _ _ (ap (bitOr (l .s % 16)) (at-gained .gained .ensures .0)) (f .ensures)),
     )
 
 same-length : tie.Need-same-length Inv-loop μ-loop
