@@ -11,11 +11,24 @@ const B: [&str; 7] =
 const C: [&str; 5] = ["seg 0 1 s", "seg 1 4 s", "mux 1 0 0 2", "out 3", "read 2"];
 const D: [&str; 3] = ["seg 0 2 s", "mux 1 0 1 1 1", "out 2"];
 
+/// The examples that hold these networks.
+const STORED: [&[u8]; 4] = [
+    include_bytes!("../../../examples/one-branch.net"),
+    include_bytes!("../../../examples/equal-branches.net"),
+    include_bytes!("../../../examples/no-plan.net"),
+    include_bytes!("../../../examples/three-inputs.net"),
+];
+
 /// A `csu` line without bits.
 const NO_BITS: &str = "csu ";
 
 fn with(lines: &[&'static str], line: &'static str) -> Vec<u8> {
     text(&[lines, &[line]].concat())
+}
+
+#[test]
+fn stored_as_examples() {
+    assert_eq!(STORED.map(<[u8]>::to_vec), [text(&A), text(&B), text(&C), text(&D)]);
 }
 
 #[test]
