@@ -1,10 +1,9 @@
 -- What a reading's numbers are, by its verdict.
 -- Assumes nothing.
-use mathlib.Core.Path.{_≡_, refl, sym, ap, _∙_, subst}
+use mathlib.Core.Path.{_≡_, sym, ap, _∙_, subst}
 use mathlib.Core.List.{List, [], _∷_}
 use Prim.Native.Nat.{ℕ}
 use lib.ListN.{length}
-use Rattle.model.specs.Result.{Result}
 use Rattle.model.specs.Text.{Bytes}
 use Rattle.model.specs.Network.{totalBits, steeringBits}
 use Rattle.model.specs.Path.{pathIn, pathLength}

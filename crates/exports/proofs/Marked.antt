@@ -4,12 +4,11 @@ use mathlib.Core.Path.{_≡_, refl, sym, ap, _∙_, subst}
 use mathlib.Core.List.{List, [], _∷_, _++_}
 use Prim.Native.Nat.{ℕ, zero, suc, _+_, _*_, _-_, _≤_}
 use native.Mathlib.Omega.{arith}
-use native.Mathlib.Nat.{zero-add, suc-add, add-suc}
+use native.Mathlib.Nat.{zero-add, suc-add}
 use lib.ListN.{length, replicate}
-use Rattle.model.specs.Result.{Result}
 use Rattle.model.specs.Text.{Bytes}
 use Rattle.model.specs.Network.{tabulate}
-use Rattle.model.specs.Mark.{Got, Pass, mark}
+use Rattle.model.specs.Mark.{Got, mark}
 use Rattle.model.proofs.Lists.{length-tabulate}
 use Rattle.marker.specs.declared.targets.Verdict.{Verdict}
 use Rattle.marker.specs.declared.targets.Verdict.the-variants.{Pass as Passed, Refused}

@@ -1,12 +1,12 @@
 -- Demand 3 of the calls `mark` and `write_clocks`, from the model's theorems.
 -- Assumes nothing.
 use mathlib.Core.Path.{_≡_, refl, sym, ap, _∙_, subst}
-use mathlib.Core.List.{List, map}
+use mathlib.Core.List.{List}
 use Prim.Native.Nat.{ℕ, _≤_}
 use native.Mathlib.Omega.{arith}
 use lib.ListN.{length, take, length-map}
 use borrow.Author.Tests.{le-ltb}
-use Rattle.model.specs.Result.{Result, ok, refused, andThen}
+use Rattle.model.specs.Result.{ok}
 use Rattle.model.specs.Text.{Bytes}
 use Rattle.model.specs.Plan.{Plan}
 use Rattle.model.specs.PlanText.{readPlan}
@@ -21,11 +21,10 @@ use Rattle.model.proofs.Demands.{marker, clocks as written, played}
 use Rattle.tap.specs.declared.Written.{Written}
 use Rattle.tap.specs.declared.Written.the-variants.{Clocks, Refused as NotWritten}
 use Rattle.tap.specs.Clocks.{answerOf}
-use Rattle.marker.specs.declared.targets.Mark.{Mark}
 use Rattle.marker.specs.declared.targets.Verdict.{Verdict}
 use Rattle.marker.specs.declared.targets.Verdict.the-variants.{Pass as Passed, Refused}
 use Rattle.marker.specs.Marks.{gotsOf, verdictOf}
-use Rattle.marker.specs.Demand.{Marked, WroteClocks, PassesExactly, BorneOut, PassBorneOut}
+use Rattle.marker.specs.Demand.{PassesExactly, PassBorneOut}
 
 -- the pass of a verdict
 pub verdict-pass : (v : Verdict) (gs : List Got) (pass : Pass) → verdictOf v gs ≡ ok pass → (lines clocks : ℕ) × (v ≡ Passed lines clocks)

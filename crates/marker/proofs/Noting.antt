@@ -1,6 +1,6 @@
 -- Laws of the first operations noted: one target, all targets, and that they are the model's `firstOn`.
 -- Assumes nothing.
-use mathlib.Core.Path.{_≡_, refl, sym, ap, _∙_}
+use mathlib.Core.Path.{_≡_, refl, sym, _∙_}
 use mathlib.Core.Option.{Option, none, some}
 use mathlib.Core.List.{List, [], _∷_, _++_}
 use Prim.Native.Nat.{ℕ, zero, suc, _+_, _≤_, _<_}
@@ -9,7 +9,6 @@ use native.Mathlib.Decide.{decLt}
 use lib.ListN.{length, getD, set, length-set}
 use lib.Seq.{getD-set-same, getD-set-other}
 use Rattle.model.specs.Path.{ScanPath, place}
-use Rattle.model.specs.Planner.{orNext}
 use Rattle.model.specs.Mark.{orLater, firstOn}
 use Rattle.network.specs.declared.draft.Tally.{Tally}
 use Rattle.marker.specs.Targets.{accessOf, Reached}

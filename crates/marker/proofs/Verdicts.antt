@@ -1,7 +1,7 @@
 -- Laws of the whole mark: what each ending says of the model's `mark`.
 -- Assumes nothing.
 use mathlib.Core.Path.{_≡_, refl, sym, ap, _∙_, subst}
-use mathlib.Core.List.{List, []}
+use mathlib.Core.List.{List}
 use Prim.Native.Nat.{ℕ}
 use native.Mathlib.Omega.{arith}
 use lib.ListN.{length}
@@ -13,21 +13,19 @@ use Rattle.model.specs.Plan.{Plan}
 use Rattle.model.specs.PlanText.{readPlan}
 use Rattle.model.specs.NetworkText.{readNetwork}
 use Rattle.model.specs.Tap.{planClocks}
-use Rattle.model.specs.Mark.{Got, Pass, Run, targetsFrom, passed, byStart, markPlan, mark}
-use Rattle.model.proofs.Lists.{not-ok}
+use Rattle.model.specs.Mark.{Pass, Run, targetsFrom, passed, byStart, markPlan, mark}
 use Rattle.model.proofs.PlanTexts.{clocks-bytes}
 use Rattle.path.specs.Answers.{Sized}
 use Rattle.plan_text.proofs.Forms.{GoodText}
 use Rattle.network.specs.declared.reader.Network.{Network}
-use Rattle.network.specs.Draws.{targetsOf}
 use Rattle.network.specs.Reads.{networkOf}
 use Rattle.marker.specs.declared.operations.Ran.{Ran}
 use Rattle.marker.specs.declared.operations.Ran.the-variants.{Done, Refused}
 use Rattle.marker.specs.declared.targets.Mark.{Mark}
 use Rattle.marker.specs.Marks.{markOf, refusedMark, RowsFor}
 use Rattle.marker.specs.Targets.{Reached, Judgeable, Judges}
-use Rattle.marker.specs.Operations.{configAt, RanAs, Starts, Startable, fromStart, Runs}
-use Rattle.network.proofs.Records.{Recorded, TargetSegment, target-segment}
+use Rattle.marker.specs.Operations.{configAt, RanAs, Starts, fromStart, Runs}
+use Rattle.network.proofs.Records.{Recorded, target-segment}
 
 -- ---- refusals of the texts
 

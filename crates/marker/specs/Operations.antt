@@ -15,7 +15,7 @@ use Rattle.model.specs.Planner.{orNext}
 use Rattle.model.specs.Mark.{Run, orLater, runFrom}
 use Rattle.path.specs.Layout.{configOf, scanPath, byteBit}
 use Rattle.path.specs.Answers.{Sized}
-use Rattle.path.proofs.StoredLaws.{Stored, PathFound}
+use Rattle.path.specs.Stored.{Stored, PathFound}
 use Rattle.network.specs.declared.draft.Tally.{Tally}
 use Rattle.network.specs.Draws.{Tame}
 use Rattle.marker.specs.declared.operations.Ran.{Ran}
@@ -79,9 +79,6 @@ Operates ns t scan k way n bits known first places r way′ bits′ known′ fir
     (net : Network) → OnPath net ns t way n bits known → OperatedAs net ns t (scanPath ns (take n way)) scan k bits known first places r way′ bits′ known′ first′ places′
 
 -- ---- all operations
-
-abbrev pub HasForm : Bytes → Type 0
-HasForm t = (plan : Plan) × (readPlan t ≡ ok plan)
 
 -- what an answer says of the model's run
 abbrev pub RanAs : List ℕ → Tally → Ran → List ℕ → List ℕ → List ℕ → List ℕ → Result Run → Type 0

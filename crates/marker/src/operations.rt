@@ -17,7 +17,8 @@ ghost use lib.ListN.{length, take};
 ghost use Rattle.path.specs.Answers.{HoldsPath};
 ghost use Rattle.path.specs.Layout.{scanPath};
 ghost use Rattle.marker.specs.Targets.{Reached};
-ghost use Rattle.marker.specs.Operations.{Slots, NotedAt, Noted, OnSomePath, Operates, HasForm, RunsFrom, Startable, Runs};
+ghost use Rattle.plan_text.specs.Form.{HasForm};
+ghost use Rattle.marker.specs.Operations.{Slots, NotedAt, Noted, OnSomePath, Operates, RunsFrom, Startable, Runs};
 
 pub enum Ran {
     Done,

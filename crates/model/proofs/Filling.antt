@@ -2,16 +2,16 @@
 -- are the fewest of a filled one.
 -- Assumes nothing.
 use mathlib.Core.Path.{_≡_, refl, sym, ap, _∙_, subst}
-use mathlib.Core.Bool.{Bool, true, false, cond, not, _&&_, _||_}
-use mathlib.Core.Option.{Option, none, some}
+use mathlib.Core.Bool.{Bool, true, false, cond, not, _||_}
+use mathlib.Core.Option.{none, some}
 use mathlib.Core.Logic.{_⊎_, inl, inr}
 use mathlib.Core.List.{List, [], _∷_, _++_, map, List·Memᴰ, List·Memᴰ·head, List·Memᴰ·tail}
 use Prim.Native.Nat.{ℕ, zero, suc, _+_, _≤_, _<_}
 use native.Mathlib.Omega.{arith}
 use native.Mathlib.Nat.{suc-add, add-suc, add-zero, zero-add, le-of-suc-le-suc, not-suc-le-zero}
-use lib.ListN.{length, getD, take, drop, length-drop, length-take, length-append, length-map}
+use lib.ListN.{length, getD, take, drop, length-drop, length-append, length-map}
 use lib.Seq.{take-at, drop-at, length-take-le}
-use lib.Dec.{eqb, leb, eqb→eq, T}
+use lib.Dec.{eqb, leb}
 use Rattle.model.specs.Network.{segment, Node, multiplexer, Target, read, write, Config, Network, at, noNode, lenOf, mapFrom, tabulate, steersAt, steers}
 use Rattle.model.specs.Path.{PathSegment, ScanPath, path, bitOf, valueOf, address, walk, pathOf, pathIn, ValidConfig, pathLength, on, share, loads, csu}
 use Rattle.model.specs.Plan.{Plan, configAfter, pathsFrom, ValidFrom, OnSome, Done, ValidPlan, wanted, fillSeg, fillOp, fillPlan}

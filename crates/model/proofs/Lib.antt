@@ -9,6 +9,7 @@ pub mod WholePlan
 pub mod Played
 pub mod Validity
 pub mod Filling
+pub mod FillingList
 pub mod Search
 pub mod SearchKey
 pub mod LineForms

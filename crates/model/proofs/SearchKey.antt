@@ -2,8 +2,8 @@
 -- Those are the 3 ^ 6 * 2 ^ 4 = 11,664 entries of the search space.
 -- Assumes nothing.
 use mathlib.Core.Path.{_≡_, refl, sym, ap, _∙_, subst}
-use mathlib.Core.Bool.{Bool, true, false}
-use mathlib.Core.Option.{Option, none, some}
+use mathlib.Core.Bool.{Bool}
+use mathlib.Core.Option.{Option, some}
 use mathlib.Core.Logic.{_⊎_, inl, inr}
 use mathlib.Core.List.{List, [], _∷_, _++_, map, List·Memᴰ, List·Memᴰ·head, List·Memᴰ·tail, Memᴰ·append-left, Memᴰ·append-right, List·Memᴰ·append-cases, List·Memᴰ·not-nil}
 use Prim.Native.Nat.{ℕ, zero, suc}
@@ -19,7 +19,7 @@ use Rattle.model.specs.Tap.{next}
 use Rattle.model.proofs.Filling.{Same, same-end, same-row, same-csu, same-path, length-csu, falls-in, owed-op}
 use Rattle.model.proofs.Lists.{not-ok}
 use Rattle.model.proofs.Playing.{falls}
-use Rattle.model.proofs.Search.{fill-out}
+use Rattle.model.proofs.FillingList.{fill-out}
 use Rattle.model.proofs.Validity.{targets-done, done-targets}
 use Rattle.model.proofs.Walking.{Falls}
 use Rattle.model.proofs.WellFormed.{WellFormed, GoodTargets}

@@ -1,8 +1,8 @@
 -- A `hold` line added.
 -- Assumes nothing.
-use mathlib.Core.Path.{_≡_, refl, sym, ap, _∙_, subst}
-use mathlib.Core.Bool.{Bool, true, false, cond, not, _&&_, _||_}
-use mathlib.Core.Option.{Option, none, some}
+use mathlib.Core.Path.{_≡_, refl, sym, ap, _∙_}
+use mathlib.Core.Bool.{Bool, true, false, cond, _&&_, _||_}
+use mathlib.Core.Option.{Option, some}
 use mathlib.Core.List.{List, [], _∷_, _++_}
 use Prim.Native.Nat.{ℕ, zero, suc, _+_, _≤_, _<_}
 use native.Mathlib.Omega.{arith}
@@ -11,20 +11,19 @@ use lib.ListN.{length, getD, set, length-set, List·getD-eq-default}
 use lib.Seq.{getD-set-same, getD-set-other}
 use lib.Dec.{eqb, leb, ltb}
 use borrow.Author.Tests.{eq-eqb, ne-eqb, eqb-true, eqb-false, ltb-false}
-use Rattle.model.specs.Result.{Result, ok, refused}
+use Rattle.model.specs.Result.{ok, refused}
 use Rattle.model.specs.Text.{Bytes, Trit, trit, bitsFrom}
 use Rattle.model.specs.Network.{Node, segment, multiplexer, at, noNode, isSegment, lenOf, Held, heldOr}
 use Rattle.model.specs.NetworkText.{Draft, hasOut, isSome, fitsBits, isHeld, addHold, withHold, outside}
 use Rattle.model.proofs.Lists.{or-parts, true-false}
 use Rattle.model.proofs.Reading.{sound-hold}
-use Rattle.path.specs.Layout.{nodeAt, nodesOf, tritsOf, byteBit}
+use Rattle.path.specs.Layout.{nodeAt, tritsOf, byteBit}
 use Rattle.path.specs.Words.{wordFrom, byteKnown}
 use Rattle.path.proofs.FieldLaws.{trits-of-field}
 use Rattle.text.proofs.Bits.{is-some, from-length}
 use Rattle.network.specs.declared.draft.Tally.{Tally}
 use Rattle.network.specs.Line.{bitsIn, valueOr}
 use Rattle.network.specs.Draws.{Draws}
-use Rattle.network.proofs.Drawing.{drawn-node, drawn-count}
 
 -- ---- the bits of a field of good form
 

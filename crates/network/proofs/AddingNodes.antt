@@ -1,20 +1,19 @@
 -- A node line added: the refusals in order, and the arrays that then draw the longer draft.
 -- Assumes nothing.
-use mathlib.Core.Path.{_≡_, refl, sym, ap, _∙_, subst}
+use mathlib.Core.Path.{_≡_, sym, ap, _∙_}
 use mathlib.Core.Bool.{Bool, true, false, cond, _||_}
-use mathlib.Core.Option.{Option, none, some}
 use mathlib.Core.List.{List, [], _∷_, _++_}
-use Prim.Native.Nat.{ℕ, zero, suc, _+_, _≤_, _<_}
+use Prim.Native.Nat.{ℕ, suc, _+_, _≤_, _<_}
 use native.Mathlib.Omega.{arith}
 use native.Mathlib.Nat.{zero-add}
 use lib.ListN.{length, getD, take}
-use lib.Dec.{eqb, leb, ltb}
+use lib.Dec.{eqb}
 use borrow.Author.Tests.{le-leb, lt-leb, lt-ltb, le-ltb}
-use Rattle.model.specs.Result.{Result, ok, refused}
+use Rattle.model.specs.Result.{ok, refused}
 use Rattle.model.specs.Text.{Trit}
-use Rattle.model.specs.Network.{Node, segment, multiplexer, lenOf, totalBits, tabulate, steersAt, heldOr, Held}
+use Rattle.model.specs.Network.{Node, lenOf, totalBits, tabulate, steersAt, heldOr, Held}
 use Rattle.model.specs.NetworkText.{Draft, hasOut, outside, addNode, withNode, isHeld, isSome}
-use Rattle.model.proofs.Lists.{tabulate-cong, true-false, none-some}
+use Rattle.model.proofs.Lists.{tabulate-cong, true-false}
 use Rattle.model.proofs.LineForms.{GoodForm}
 use Rattle.model.proofs.Reading.{Sound, Stage, no-out, behind-out, sound-node, total-more}
 use Rattle.path.specs.Layout.{nodeAt, nodesOf, tritsOf}
@@ -23,9 +22,9 @@ use Rattle.network.specs.declared.line.NodeData.{NodeData}
 use Rattle.network.specs.declared.line.NodeData.the-variants.{Segment, Multiplexer}
 use Rattle.network.specs.Line.{nodeFor, SmallNode}
 use Rattle.network.specs.Store.{Row, RowStored, Marked}
-use Rattle.network.specs.Draws.{Tame, Sized, Draws, targetAt, targetsOf, feedsOf}
+use Rattle.network.specs.Draws.{Draws, targetAt, targetsOf}
 use Rattle.network.proofs.Nodes.{by-count, node-by-fields}
-use Rattle.network.proofs.Drawing.{tabulate-snoc, steers-more, drawn-out, drawn-count, drawn-targets, kept-node}
+use Rattle.network.proofs.Drawing.{tabulate-snoc, steers-more, drawn-count, drawn-targets, kept-node}
 
 -- ---- the refusals
 

@@ -1,18 +1,15 @@
 -- An `out` line added.
 -- Assumes nothing.
-use mathlib.Core.Path.{_≡_, refl, sym, ap, _∙_, subst}
-use mathlib.Core.Bool.{Bool, true, false}
-use mathlib.Core.Option.{Option, none, some}
+use mathlib.Core.Path.{_≡_, refl, sym, ap, _∙_}
+use mathlib.Core.Bool.{true, false}
+use mathlib.Core.Option.{Option}
 use mathlib.Core.List.{List}
 use Prim.Native.Nat.{ℕ, zero, suc, _≤_, _<_}
-use native.Mathlib.Omega.{arith}
 use lib.ListN.{length}
 use borrow.Author.Tests.{lt-ltb, le-ltb}
-use Rattle.model.specs.Result.{Result, ok, refused}
-use Rattle.model.specs.Network.{Node}
+use Rattle.model.specs.Result.{ok, refused}
 use Rattle.model.specs.NetworkText.{Draft, hasOut, firstBad, addOut, withOut, outIf}
 use Rattle.model.proofs.Reading.{sound-out}
-use Rattle.path.specs.Layout.{nodesOf}
 use Rattle.network.specs.declared.draft.Tally.{Tally}
 use Rattle.network.specs.Draws.{Draws, ifNonzero}
 

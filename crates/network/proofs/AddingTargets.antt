@@ -2,30 +2,28 @@
 -- Assumes nothing.
 use mathlib.Core.Path.{_≡_, refl, sym, ap, _∙_, subst}
 use mathlib.Core.Bool.{Bool, true, false, cond, not, _&&_, _||_, Bool·beq}
-use mathlib.Core.Option.{Option, none, some}
 use mathlib.Core.List.{List, [], _∷_, _++_}
 use Prim.Native.Nat.{ℕ, zero, suc, _+_, _-_, _*_, _/_, _%_, _^_, _≤_, _<_}
 use native.Mathlib.Omega.{arith}
-use native.Mathlib.Decide.{decLt}
 use native.Mathlib.Numerals.{add-one}
-use native.Mathlib.Nat.{zero-div, zero-add, div-lt-iff-lt-mul, pow-suc, not-suc-le-zero}
-use lib.ListN.{length, getD, set, length-set, List·getD-eq-default}
+use native.Mathlib.Nat.{zero-div, zero-add, pow-suc}
+use lib.ListN.{length, getD, set, length-set}
 use lib.Seq.{getD-set-same, getD-set-other}
-use lib.Pow.{shr-shr, shr-lt}
-use lib.Dec.{eqb, leb, ltb}
-use borrow.Author.Tests.{eq-eqb, ne-eqb, eqb-true, eqb-false, le-leb, lt-leb, leb-true, not-false, ltb-false}
-use Rattle.model.specs.Result.{Result, ok, refused, refuseIf}
+use lib.Pow.{shr-shr}
+use lib.Dec.{eqb, leb}
+use borrow.Author.Tests.{eq-eqb, ne-eqb, le-leb, lt-leb, leb-true, not-false}
+use Rattle.model.specs.Result.{Result, ok, refused}
 use Rattle.model.specs.Network.{Node, segment, multiplexer, Target, read, write, at, noNode, hasShadow, lenOf, addressBits, tabulate, steers, steersAt, addressIn, isSteering}
-use Rattle.model.specs.NetworkText.{Draft, hasOut, isSome, outside, badAddress, fitsTarget, fitsBits, sameTarget, isTarget, targetSegment, addFitting, addTarget, withTarget}
-use Rattle.model.proofs.Lists.{true-false, and-parts, or-parts, or-left, or-right, eqb-same, tabulate-cong}
-use Rattle.model.proofs.Reading.{Sound, Stage, no-out, behind-out, sound-target}
+use Rattle.model.specs.NetworkText.{Draft, hasOut, isSome, badAddress, fitsTarget, sameTarget, isTarget, targetSegment, addFitting, addTarget, withTarget}
+use Rattle.model.proofs.Lists.{true-false, and-parts, or-left, or-right, eqb-same, tabulate-cong}
+use Rattle.model.proofs.Reading.{Stage, no-out, behind-out, sound-target}
 use Rattle.model.proofs.Accepted.{no-bad, unsteered-bits}
-use Rattle.path.specs.Layout.{nodeAt, nodesOf, wordWidth, wordBit}
+use Rattle.path.specs.Layout.{nodeAt, wordWidth, wordBit}
 use Rattle.network.specs.declared.draft.Tally.{Tally}
 use Rattle.network.specs.declared.add.Refusal.{Refusal}
 use Rattle.network.specs.Draws.{Draws, targetAt, targetsOf, targetFor, sameWord, Agrees}
 use Rattle.network.specs.Added.{IsWord}
-use Rattle.network.proofs.Drawing.{tabulate-snoc, drawn-targets, drawn-short}
+use Rattle.network.proofs.Drawing.{tabulate-snoc, drawn-short}
 
 -- ---- a repeat
 

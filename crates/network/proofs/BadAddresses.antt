@@ -1,17 +1,17 @@
 -- Laws of refusal 5: whether a node's address is outside a segment with shadow, and the first such node.
 -- Assumes nothing.
-use mathlib.Core.Path.{_≡_, refl, sym, ap, _∙_, subst}
-use mathlib.Core.Bool.{Bool, true, false, cond, not, _&&_}
+use mathlib.Core.Path.{_≡_, refl, sym, ap, _∙_}
+use mathlib.Core.Bool.{Bool, true, false, cond, not}
 use mathlib.Core.Option.{Option, none, some}
-use mathlib.Core.List.{List, [], _∷_}
+use mathlib.Core.List.{List, _∷_}
 use Prim.Native.Nat.{ℕ, zero, suc, _+_, _-_, _≤_, _<_}
 use native.Mathlib.Omega.{arith}
 use native.Mathlib.Decide.{decLe, decLt}
 use native.Mathlib.Numerals.{add-one}
-use lib.ListN.{length, getD, List·getD-eq-default}
-use lib.Dec.{eqb, leb}
+use lib.ListN.{length, List·getD-eq-default}
+use lib.Dec.{leb}
 use borrow.Author.Tests.{le-leb, lt-leb, eq-eqb, ne-eqb}
-use Rattle.model.specs.Network.{Node, segment, multiplexer, at, noNode, hasShadow, lenOf, addressBits, tabulate}
+use Rattle.model.specs.Network.{segment, at, noNode, hasShadow, addressBits, tabulate}
 use Rattle.model.specs.NetworkText.{badAddress, firstBad}
 use Rattle.model.proofs.Lists.{length-tabulate, getD-tabulate}
 use Rattle.path.specs.Layout.{fieldAt, inputsAt, nodeAt, nodesOf}

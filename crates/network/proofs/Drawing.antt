@@ -2,7 +2,6 @@
 -- Assumes nothing.
 use mathlib.Core.Path.{_≡_, refl, sym, ap, _∙_, subst}
 use mathlib.Core.Bool.{Bool, true, false, cond, _||_}
-use mathlib.Core.Option.{Option, none, some}
 use mathlib.Core.List.{List, [], _∷_, _++_}
 use Prim.Native.Nat.{ℕ, zero, suc, _+_, _≤_, _<_}
 use native.Mathlib.Omega.{arith}
@@ -12,18 +11,17 @@ use lib.ListN.{length, getD, List·getD-eq-default}
 use lib.Dec.{eqb, leb, ltb}
 use borrow.Author.Tests.{ltb-true, ltb-false}
 use Rattle.model.specs.Result.{Result, ok, refused}
-use Rattle.model.specs.Network.{Node, segment, multiplexer, Target, tabulate, noNode, lenOf, steers, steersAt, at}
+use Rattle.model.specs.Network.{Node, segment, multiplexer, tabulate, noNode, lenOf, steers, steersAt, at}
 use Rattle.model.specs.Path.{nodeOf}
 use Rattle.model.specs.NetworkText.{Draft, hasOut, isSome, outside}
 use Rattle.model.proofs.Lists.{or-parts, length-tabulate, getD-tabulate}
 use Rattle.model.proofs.LineForms.{GoodForm}
-use Rattle.model.proofs.Reading.{Sound, Placed}
 use Rattle.path.specs.Layout.{fieldAt, nodeAt, nodesOf, wordWidth}
 use Rattle.network.specs.declared.draft.Tally.{Tally}
 use Rattle.network.specs.declared.add.Refusal.{Refusal}
 use Rattle.network.specs.declared.add.Refusal.the-variants.{Nothing, Refused}
 use Rattle.network.specs.Store.{RowStored}
-use Rattle.network.specs.Draws.{feedsOf, targetsOf, Formed, Short, Draws, Agrees}
+use Rattle.network.specs.Draws.{feedsOf, Formed, Short, Draws, Agrees}
 use Rattle.network.proofs.Nodes.{node-by-fields}
 
 -- ---- answers

@@ -1,21 +1,20 @@
 -- Laws of a node's fields: bounds, the eight numbers, the words of steering bits.
 -- Assumes nothing.
 use mathlib.Core.Path.{_≡_, refl, sym, ap, _∙_, subst}
-use mathlib.Core.Bool.{Bool, true, false, cond, not, _&&_, _||_}
-use mathlib.Core.Logic.{_⊎_, inl, inr}
+use mathlib.Core.Bool.{Bool, true, false, cond, _&&_, _||_}
 use mathlib.Core.List.{List, [], _∷_}
-use Prim.Native.Nat.{ℕ, zero, suc, _+_, _-_, _*_, _/_, _%_, _^_, _≤_, _<_, max}
+use Prim.Native.Nat.{ℕ, suc, _+_, _-_, _*_, _/_, _%_, _^_, _≤_, _<_, max}
 use native.Mathlib.Omega.{arith}
 use native.Mathlib.Decide.{decLt}
 use native.Mathlib.Numerals.{add-one}
-use lib.ListN.{length, getD, take, set, length-set}
+use lib.ListN.{length, getD, set, length-set}
 use lib.Seq.{getD-set-same, getD-set-other}
 use lib.Dec.{eqb, leb, ltb}
 use lib.Bits.{bitOr, or-shr, or-step, or-lt}
 use lib.Pow.{pow-lt, pow-add, pow-pos}
 use native.Mathlib.Nat.{pow-suc, div-eq-of-lt, div-self, mul-div-cancel}
 use borrow.Author.Tests.{le-leb, lt-leb, lt-ltb, le-ltb, eq-eqb, ne-eqb, eqb-true, eqb-false}
-use Rattle.model.specs.Network.{Node, segment, multiplexer, tabulate, steersAt}
+use Rattle.model.specs.Network.{segment, multiplexer, tabulate}
 use Rattle.model.specs.NetworkText.{anyFrom, outside}
 use Rattle.model.proofs.Lists.{tabulate-cong}
 use Rattle.path.specs.Layout.{fieldAt, nodeAt, wordWidth, wordBit}
@@ -146,7 +145,7 @@ bit-max x y a b = go (decLt x 1) (decLt y 1)
     go (no h) (yes k) = let e : x ≡ 1 = omega arith in let f : y ≡ 0 = omega arith in rw (e, f)
     go (no h) (no k) = let e : x ≡ 1 = omega arith in let f : y ≡ 1 = omega arith in rw (e, f)
 
-wordBit-or : (v w c : ℕ) → wordBit (bitOr v w) c ≡ (wordBit v c || wordBit w c)
+pub wordBit-or : (v w c : ℕ) → wordBit (bitOr v w) c ≡ (wordBit v c || wordBit w c)
 wordBit-or v w c =
     let p = v / 2 ^ c in
     let q = w / 2 ^ c in
@@ -154,7 +153,7 @@ wordBit-or v w c =
     ap (λ (x : ℕ). eqb (x % 2) 1) (or-shr v w c) ∙ ap (λ (x : ℕ). eqb x 1) e ∙ bit-max (p % 2) (q % 2) (omega arith) (omega arith)
 
 -- bit c of the word whose only bit is b
-wordBit-pow : (b c : ℕ) → wordBit (2 ^ b) c ≡ eqb b c
+pub wordBit-pow : (b c : ℕ) → wordBit (2 ^ b) c ≡ eqb b c
 wordBit-pow b c = go (decLt c b) (decLt b c)
   where
     go : Dec (c < b) → Dec (b < c) → wordBit (2 ^ b) c ≡ eqb b c
@@ -172,7 +171,7 @@ wordBit-pow b c = go (decLt c b) (decLt b c)
         let z : 2 ^ c / 2 ^ c ≡ 1 = div-self (pow-pos c) in
         rw (e, z, eq-eqb c c refl)
 
-or-false : (t : Bool) → t ≡ (t || false)
+pub or-false : (t : Bool) → t ≡ (t || false)
 or-false true = refl
 or-false false = refl
 

@@ -1,17 +1,14 @@
 -- Laws of the lines in turn: what a parsed line adds, and where the loop over the lines stands.
 -- Assumes nothing.
 use mathlib.Core.Path.{_≡_, refl, sym, ap, _∙_, subst}
-use mathlib.Core.Bool.{Bool, true, false}
-use mathlib.Core.Option.{Option, none, some}
 use mathlib.Core.List.{List, [], _∷_}
-use Prim.Native.Nat.{ℕ, zero, suc, _+_, _-_, _≤_, _<_}
+use Prim.Native.Nat.{ℕ, suc, _+_, _-_, _≤_, _<_}
 use native.Mathlib.Omega.{arith}
 use native.Mathlib.Numerals.{add-one}
 use lib.ListN.{length, take, drop, drop-of-length-le, length-drop}
 use Rattle.model.specs.Result.{Result, ok, refused, andThen}
 use Rattle.model.specs.Text.{Bytes, parts, lineEnd}
-use Rattle.model.specs.NetworkText.{Draft, Line, noLines, lineOf, addLine, atEnd, readLines}
-use Rattle.model.proofs.Lists.{not-ok, refusal-number, refusal-place}
+use Rattle.model.specs.NetworkText.{Draft, noLines, lineOf, addLine, atEnd, readLines}
 use Rattle.model.proofs.PlanTexts.{parts-more}
 use Rattle.text.specs.Places.{IsEnd}
 use Rattle.text.proofs.Parts.{rest-alone, rest-ended}

@@ -21,7 +21,8 @@ use Rattle.path.specs.Answers.{Found, Walkable, told}
 use Rattle.path.specs.declared.walk.Walked.{Walked}
 use Rattle.path.specs.declared.walk.Walked.the-variants.{Path, Stop as Stopped}
 use Rattle.path.proofs.WordLaws.{zero-bit}
-use Rattle.path.proofs.StoredLaws.{Stored, stored-walkable, found-walk}
+use Rattle.path.specs.Stored.{Stored}
+use Rattle.path.proofs.StoredLaws.{stored-walkable, found-walk}
 use Rattle.network.specs.declared.draft.Tally.{Tally}
 use Rattle.network.specs.declared.add.Refusal.the-variants.{Nothing, Refused}
 use Rattle.network.specs.declared.reader.Lines.{Lines}

@@ -2,14 +2,14 @@
 -- Assumes nothing.
 use mathlib.Core.Path.{_≡_, refl, sym, ap, _∙_, subst}
 use mathlib.Core.Bool.{Bool, true, false, cond}
-use mathlib.Core.List.{List, [], _∷_, List·Memᴰ, List·Memᴰ·head, List·Memᴰ·tail}
+use mathlib.Core.List.{List, List·Memᴰ, List·Memᴰ·head, List·Memᴰ·tail}
 use Prim.Native.Nat.{ℕ, zero, suc, _+_, _≤_, _<_}
 use native.Mathlib.Omega.{arith}
 use native.Mathlib.Decide.{decLt}
 use native.Mathlib.Nat.{not-suc-le-zero}
-use lib.ListN.{length, getD}
+use lib.ListN.{getD}
 use lib.Dec.{eqb}
-use Rattle.model.specs.Result.{Result, ok, refused}
+use Rattle.model.specs.Result.{ok, refused}
 use Rattle.model.specs.Text.{Bytes}
 use Rattle.model.specs.Network.{Node, Target, read, write, at, noNode, isSegment, lenOf, tabulate}
 use Rattle.model.specs.NetworkText.{targetSegment, fitsTarget, readNetwork}
@@ -17,13 +17,13 @@ use Rattle.model.proofs.Lists.{true-false, and-parts, length-tabulate}
 use Rattle.model.proofs.Accepted.{Accepted, accepted}
 use Rattle.path.specs.Layout.{nodeAt, nodesOf, wordWidth, wordBit}
 use Rattle.path.proofs.ConfigLaws.{good-most}
-use Rattle.path.proofs.StoredLaws.{Stored}
+use Rattle.path.specs.Stored.{Stored}
 use Rattle.network.specs.declared.draft.Tally.{Tally}
 use Rattle.network.specs.declared.reader.Network.{Network}
 use Rattle.network.specs.declared.reader.Reading.{Reading}
 use Rattle.network.specs.declared.reader.Verdict.{Verdict}
 use Rattle.network.specs.declared.reader.Verdict.the-variants.{Accepted as Passed, Refused as Rejected}
-use Rattle.network.specs.Draws.{targetAt, targetsOf}
+use Rattle.network.specs.Draws.{targetAt}
 use Rattle.network.specs.Reads.{networkOf, readingBy, Filled, FilledIf, IsReading}
 use Rattle.network.proofs.BadAddresses.{node-in, node-zero, node-beyond}
 
@@ -53,7 +53,7 @@ tabulate-in f i (suc n) (suc j) l =
     let z : suc i + j ≡ i + suc j = omega arith in
     List·Memᴰ·tail (subst (λ (k : ℕ). List·Memᴰ (f k) (tabulate f (suc i) n)) z (tabulate-in f (suc i) n j (omega arith)))
 
-fits-segment : (ns : List Node) (t : Target) → fitsTarget ns t ≡ true → isSegment (at ns (targetSegment t) noNode) ≡ true
+pub fits-segment : (ns : List Node) (t : Target) → fitsTarget ns t ≡ true → isSegment (at ns (targetSegment t) noNode) ≡ true
 fits-segment ns (read s) e = e
 fits-segment ns (write s bs) e = and-parts (isSegment (at ns s noNode)) _ e .0
 
@@ -62,7 +62,7 @@ pub record TargetSegment (ns : List ℕ) (count s : ℕ) : Type 0 where
   pub most : s ≤ count
   pub short : lenOf (nodeAt ns s) ≤ wordWidth
 
-segment-at : (ns : List ℕ) (t : Tally) (i : ℕ) → targetSegment (targetAt ns t i) ≡ getD (t .«target_segment») i 0
+pub segment-at : (ns : List ℕ) (t : Tally) (i : ℕ) → targetSegment (targetAt ns t i) ≡ getD (t .«target_segment») i 0
 segment-at ns t i = go (eqb (getD (t .«target_write») i 0) 1)
   where
     s : ℕ

@@ -1,17 +1,16 @@
 -- Laws of the start: the loop that fills it, and the configuration that it gives.
 -- Assumes nothing.
-use mathlib.Core.Path.{_≡_, refl, sym, ap, _∙_, subst}
+use mathlib.Core.Path.{_≡_, refl, sym, ap, _∙_}
 use mathlib.Core.Bool.{Bool, true, false, cond}
-use mathlib.Core.Option.{Option, none, some}
-use mathlib.Core.List.{List, [], _∷_}
-use Prim.Native.Nat.{ℕ, zero, suc, _+_, _-_, _/_, _%_, _^_, _≤_, _<_}
+use mathlib.Core.List.{List, _∷_}
+use Prim.Native.Nat.{ℕ, zero, suc, _+_, _-_, _≤_, _<_}
 use native.Mathlib.Omega.{arith}
 use native.Mathlib.Decide.{decLt}
 use lib.ListN.{length, getD, set, length-set, replicate}
 use lib.Seq.{getD-set-same, getD-set-other}
 use lib.Dec.{eqb}
 use borrow.Author.Tests.{eq-eqb, ne-eqb, eqb-true, eqb-false}
-use Rattle.model.specs.Network.{Node, lenOf, mapFrom, tabulate, isSteering, heldOr, startBit, startOf}
+use Rattle.model.specs.Network.{lenOf, mapFrom, tabulate, isSteering, heldOr, startBit, startOf}
 use Rattle.model.specs.NetworkText.{Draft, hasOut}
 use Rattle.model.proofs.Lists.{tabulate-cong}
 use Rattle.path.specs.Layout.{nodeAt, wordWidth, allKnown, tritsOf, configOf}

@@ -7,30 +7,17 @@ use Prim.Native.Nat.{ℕ, suc, _<_, _≤_}
 use native.Mathlib.Omega.{arith}
 use lib.ListN.{length, getD, take}
 use Rattle.model.specs.Network.{Node, Network, Config, noNode}
-use Rattle.model.specs.Path.{ScanPath, path, stop, bitOf, walk, walkFrom, nodeOf, pathOf, pathIn, ValidConfig, pathLength, on, place, csu}
+use Rattle.model.specs.Path.{ScanPath, path, stop, bitOf, walk, walkFrom, nodeOf, pathOf, pathIn, pathLength, on, place, csu}
 use Rattle.model.proofs.Lists.{length-tabulate}
 use Rattle.model.proofs.Walking.{valid-by}
-use Rattle.model.proofs.WellFormed.{GoodNode, WellFormed}
+use Rattle.model.proofs.WellFormed.{GoodNode}
 use Rattle.path.specs.Layout.{nodeAt, nodesOf, configOf, scanPath, byteBit}
-use Rattle.path.specs.Answers.{Walkable, HoldsPath, told, Holds, Found, Loads}
+use Rattle.path.specs.Stored.{Stored, PathFound}
+use Rattle.path.specs.Answers.{Walkable, told, Holds, Found, Loads}
 use Rattle.path.specs.declared.walk.Walked.{Walked}
 use Rattle.path.specs.declared.walk.Walked.the-variants.{Path, Stop as Stopped}
 use Rattle.path.proofs.ConfigLaws.{good-safe, found-config}
 use Rattle.path.proofs.PathLaws.{isPlace, on-place}
-
--- the arrays hold the network: its nodes, and the number of the node that feeds scan-out
-pub record Stored (net : Network) (ns : List ℕ) (count out : ℕ) : Type 0 where
-  pub nodes : net .nodes ≡ nodesOf ns count
-  pub feeds : net .out ≡ out
-  pub most : count ≤ 128
-  pub formed : WellFormed net
-
--- the path of n segments in the lent memory is the network's path in the configuration
-pub record PathFound (net : Network) (c : Config) (ns way : List ℕ) (n : ℕ) : Type 0 where
-  pub walks : walk net c ≡ path (scanPath ns (take n way))
-  pub is : pathIn net c ≡ scanPath ns (take n way)
-  pub valid : ValidConfig net c
-  pub holds : HoldsPath ns way n
 
 module _ (net : Network) (ns : List ℕ) (count out : ℕ) (st : Stored net ns count out) where
   stored-good : (n : ℕ) → n < length (nodesOf ns count) → GoodNode (nodesOf ns count) (suc n) (getD (nodesOf ns count) n noNode)

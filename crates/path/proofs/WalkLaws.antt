@@ -7,13 +7,14 @@ use Prim.Native.Nat.{ℕ, zero, suc, _+_, _-_, _<_, _≤_, suc-le-suc}
 use native.Mathlib.Nat.{le-refl, sub-self}
 use native.Mathlib.Numerals.{add-one}
 use native.Mathlib.Omega.{arith}
+use borrow.Author.Tests.{le-leb, lt-leb}
 use lib.ListN.{length, getD, take, drop, set, length-set, getElem?}
 use lib.Seq.{drop-cons, getD-take, getD-set-same, take-take, take-set-le}
 use Rattle.model.specs.Network.{Node, segment, multiplexer, lenOf}
 use Rattle.model.specs.Path.{Walk, path, stop, pick, address, onWay, enter, visit, walkFrom}
 use Rattle.model.specs.Text.{Trit}
 use Rattle.path.specs.Layout.{nodeAt, wordWidth, lookIn, segmentAt, scanPath, Way, SafeNode, Safe}
-use Rattle.path.specs.Answers.{stepTo, stepOf, Walkable, added, toldFrom, FallsFrom, Walks}
+use Rattle.path.specs.Answers.{stepTo, stepOf, Walkable, added, toldFrom, FallsFrom, walkedBy, Walks}
 use Rattle.path.specs.declared.walk.Step.{Step}
 use Rattle.path.specs.declared.walk.Step.the-variants.{Segment, Input, Stop}
 use Rattle.path.specs.declared.walk.Walked.{Walked}
@@ -80,6 +81,20 @@ added-more way old met at n size room kept h =
     let count : n - met ≡ suc (n - (met + 1)) = omega arith in
     ap (λ (l : List ℕ). take (n - met) l) rest ∙ ap (λ (m : ℕ). take m (at ∷ drop (met + 1) way)) count
 
+-- ---- the answer in one number
+
+pub path-number : (met : ℕ) → met ≤ 128 → Path met ≡ walkedBy met
+path-number met l = rw (le-leb met 128 l)
+
+pub beyond-number : (r : ℕ) → 128 < r → Stopped (r - 128) ≡ walkedBy r
+beyond-number r l = rw (lt-leb r 128 l)
+
+stop-number : (at : ℕ) → (at ≡ 0 → ⊥) → Stopped at ≡ walkedBy (128 + at)
+stop-number at more =
+    let e : 128 + at - 128 ≡ at = omega arith in
+    let l : 128 < 128 + at = omega (arith, more) in
+    ap Stopped (sym e) ∙ beyond-number (128 + at) l
+
 -- ---- the walk
 
 -- the walk from `at` goes on from m, with this lent memory: what it asks there, and what its answer makes
@@ -89,17 +104,18 @@ pub record Onward (ns bits known : List ℕ) (at : ℕ) (way : List ℕ) (met m 
   pub then : (r : Walked) (way′ : List ℕ) → Walks ns bits known m next met′ r way′ → Walks ns bits known at way met r way′
 
 module _ (ns bits known : List ℕ) (at : ℕ) (way : List ℕ) (met : ℕ) where
-  pub walks-end : at ≡ 0 → Walks ns bits known at way met (Path met) way
+  pub walks-end : at ≡ 0 → met ≤ 128 → Walks ns bits known at way met (walkedBy met) way
   unfolding walkFrom
-  walks-end e =
-      let none-added : added way met met ≡ [] = ap (λ (m : ℕ). take m (drop met way)) (sub-self met) in
-      record {
-        tells = λ k h. rw (e, none-added) (ended k);
-        falls = (le-refl met, omega arith, rw none-added tt);
-        size = refl;
-        kept = refl;
-      }
+  walks-end e most = subst (λ (r : Walked). Walks ns bits known at way met r way) (path-number met most) record {
+    tells = λ k h. rw (e, none-added) (ended k);
+    falls = (le-refl met, omega arith, rw none-added tt);
+    size = refl;
+    kept = refl;
+  }
     where
+      none-added : added way met met ≡ []
+      none-added = ap (λ (m : ℕ). take m (drop met way)) (sub-self met)
+
       ended : (k : ℕ) → walkFrom (nodeAt ns) (lookIn bits known) k 0 ≡ path []
       ended zero = refl
       ended (suc k) = refl
@@ -119,8 +135,8 @@ module _ (ns bits known : List ℕ) (at : ℕ) (way : List ℕ) (met : ℕ) wher
         first zero q = absurd (q refl)
         first (suc n) q = refl
 
-    pub walks-stop : stepOf (lookIn bits known) (nodeAt ns at) ≡ Stop → Walks ns bits known at way met (Stopped at) way
-    walks-stop e = record { tells = tells; falls = tt; size = refl; kept = refl }
+    pub walks-stop : stepOf (lookIn bits known) (nodeAt ns at) ≡ Stop → Walks ns bits known at way met (walkedBy (128 + at)) way
+    walks-stop e = subst (λ (r : Walked). Walks ns bits known at way met r way) (stop-number at more) record { tells = tells; falls = tt; size = refl; kept = refl }
       where
         tells : (k : ℕ) → at ≤ k → walkFrom (nodeAt ns) (lookIn bits known) k at ≡ stop at
         tells zero h = absurd (more (omega arith))

@@ -63,6 +63,10 @@ abbrev pub FallsFrom : List ℕ → List ℕ → ℕ → ℕ → Walked → Type
 FallsFrom ns way at met (Path n) = (met ≤ n) × (n ≤ met + at) × Way ns (suc at) (added way met n)
 FallsFrom ns way at met (Stopped m) = Unit {0}
 
+-- the answer in one number: the count of segments met, or 128 and the number of the multiplexer that stops the walk
+abbrev pub walkedBy : ℕ → Walked
+walkedBy r = cond (leb r 128) (Path r) (Stopped (r - 128))
+
 -- the answer r, with `old` in the lent memory before and `way` in it after
 pub record Walks (ns bits known : List ℕ) (at : ℕ) (old : List ℕ) (met : ℕ) (r : Walked) (way : List ℕ) : Type 0 where
   pub tells : (k : ℕ) → at ≤ k → walkFrom (nodeAt ns) (lookIn bits known) k at ≡ toldFrom ns way met r

@@ -1,4 +1,5 @@
--- The layout of the record, and what the calls of this crate answer.
+-- The layout of the record, what the calls of this crate answer, and a network that the arrays hold.
 pub mod Layout
 pub mod Words
 pub mod Answers
+pub mod Stored

@@ -8,7 +8,7 @@ use crate::words;
 ghost use mathlib.Core.Path.{_≡_};
 ghost use Prim.Native.Nat.{_+_, _<_, _≤_};
 ghost use Rattle.path.specs.Layout.{nodeAt, wordWidth, lookIn, SafeNode};
-ghost use Rattle.path.specs.Answers.{addressed, addressIn, stepOf, Walkable, Walks, Found};
+ghost use Rattle.path.specs.Answers.{addressed, addressIn, stepOf, Walkable, walkedBy, Walks, Found};
 
 // The address of a multiplexer, as far as it is known.
 pub enum Address {
@@ -68,7 +68,8 @@ pub enum Walked {
     Stop(usize),
 }
 
-// The walk from node at. The segments met are written to way, behind those met before.
+// The walk from node at. The segments met are written to way, behind those met before. The answer in one number: the count of
+// segments met in all, or 128 and the number of the multiplexer that stops the walk.
 pub fn walk<'a>(
     nodes: &'a Nodes,
     bits: &'a Words,
@@ -76,12 +77,12 @@ pub fn walk<'a>(
     at: usize,
     way: &mut Way,
     met: usize,
-) -> Walked
+) -> usize
     requires { ⌜ Walkable (now nodes) at (now way) met ⌝ }
-    ensures { λ r. ⌜ Walks (now (nodes .entry)) (now (bits .entry)) (now (known .entry)) at (now (way .entry)) met r (now (way .exit)) ⌝ }
+    ensures { λ r. ⌜ Walks (now (nodes .entry)) (now (bits .entry)) (now (known .entry)) at (now (way .entry)) met (walkedBy r) (now (way .exit)) ⌝ }
 {
     if at == 0 {
-        return Walked::Path(met);
+        return met;
     }
     match step_from(nodes, bits, known, at) {
         Step::Segment(to) => {
@@ -89,8 +90,18 @@ pub fn walk<'a>(
             walk(nodes, bits, known, to, way, met + 1)
         }
         Step::Input(to) => walk(nodes, bits, known, to, way, met),
-        Step::Stop => Walked::Stop(at),
+        Step::Stop => 128 + at,
     }
+}
+
+// The answer that a number stands for.
+fn answer_of(r: usize) -> Walked
+    ensures { λ q. ⌜ q ≡ walkedBy r ⌝ }
+{
+    if r <= 128 {
+        return Walked::Path(r);
+    }
+    Walked::Stop(r - 128)
 }
 
 // The whole walk, from the node that feeds scan-out.
@@ -104,5 +115,5 @@ pub fn find_path<'a>(
     requires { ⌜ Walkable (now nodes) out (now way) 0 ⌝ }
     ensures { λ r. ⌜ Found (now (nodes .entry)) (now (bits .entry)) (now (known .entry)) out r (now (way .exit)) ⌝ }
 {
-    walk(nodes, bits, known, out, way, 0)
+    answer_of(walk(nodes, bits, known, out, way, 0))
 }

@@ -1,13 +1,13 @@
-// Plan texts: their form, the line finder, and the writer of a line.
+// Plan texts: their form, the line finder, and writing into a buffer.
 ghost use mathlib.Core.Path.{_≡_};
 ghost use mathlib.Core.List.{map};
 ghost use Prim.Native.Nat.{_+_, _≤_};
-ghost use lib.ListN.{length, drop};
+ghost use lib.ListN.{length, drop, replicate};
 ghost use lib.Dec.{leb};
 ghost use Rattle.model.specs.Tap.{bitByte};
 ghost use Rattle.plan_text.specs.Form.{formOf, planForm};
 ghost use Rattle.plan_text.specs.Lines.{bitRun, lineFor, nextFrom};
-ghost use Rattle.plan_text.specs.Writing.{writeAt, lineText};
+ghost use Rattle.plan_text.specs.Writing.{writeAt};
 
 // The most bytes and lines of a plan text.
 const MOST_BYTES: usize = 64080;
@@ -145,13 +145,16 @@ pub fn put(buf: &mut [u8], at: usize, new: &[u8]) -> usize
     at + n
 }
 
-// The line of an operation, given by its bits as `0` and `1`, written from a place on; the place behind it.
-pub fn write_line(buf: &mut [u8], at: usize, bits: &[u8]) -> usize
-    requires { ⌜ at + (5 + length (now bits)) ≤ length (now buf) ⌝ }
-    ensures { λ r. ⌜ r ≡ at + (5 + length (now (bits .entry))) ⌝ }
-    ensures { λ r. ⌜ now (buf .exit) ≡ writeAt at (lineText (now (bits .entry))) (now (buf .entry)) ⌝ }
+// As many `0` written from a place on; the place behind them.
+pub fn put_zeros(buf: &mut [u8], at: usize, n: usize) -> usize
+    requires { ⌜ at + n ≤ length (now buf) ⌝ }
+    ensures { λ r. ⌜ r ≡ at + n ⌝ }
+    ensures { λ r. ⌜ now (buf .exit) ≡ writeAt at (replicate n 48) (now (buf .entry)) ⌝ }
 {
-    let start = put(buf, at, b"csu\t");
-    let end = put(buf, start, bits);
-    put(buf, end, b"\n")
+    let mut i: usize = 0;
+    while i < n {
+        buf[at + i] = b'0';
+        i += 1;
+    }
+    at + n
 }

@@ -1,20 +1,20 @@
 -- Laws of the planner's call: what each ending says of the model's `makePlan`.
 -- Assumes nothing.
 use mathlib.Core.Path.{_≡_, refl, sym, ap, _∙_}
-use mathlib.Core.Option.{Option, none, some}
+use mathlib.Core.Option.{none, some}
 use mathlib.Core.List.{List}
 use Prim.Native.Nat.{ℕ, _≤_, _<_}
 use native.Mathlib.Omega.{arith}
 use lib.ListN.{length, replicate}
 use borrow.Author.Tests.{lt-ltb, le-ltb}
-use Rattle.model.specs.Result.{Result, ok, refused, andThen}
+use Rattle.model.specs.Result.{Result, ok, refused}
 use Rattle.model.specs.Text.{Bytes}
 use Rattle.model.specs.Network.{Network as ModelNetwork, steeringBits}
 use Rattle.model.specs.Plan.{Plan}
 use Rattle.model.specs.PlanText.{writePlan}
 use Rattle.model.specs.NetworkText.{readNetwork}
 use Rattle.model.specs.Planner.{planFor}
-use Rattle.model.specs.Calls.{writeOver, written, countOf, ifRoom, searchEntries, searchable, found, textOf, planned, cleared, PlanAnswer, makePlan}
+use Rattle.model.specs.Calls.{writeOver, written, countOf, ifRoom, searchEntries, searchable, planned, cleared, PlanAnswer, makePlan}
 use Rattle.network.specs.declared.reader.Network.{Network}
 use Rattle.network.specs.Reads.{networkOf}
 use Rattle.planner.specs.declared.writer.Planned.{Planned}

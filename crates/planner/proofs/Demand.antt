@@ -1,25 +1,23 @@
 -- Demand 3 of the call `make_plan`, from the model's theorems.
 -- Assumes nothing.
-use mathlib.Core.Path.{_≡_, refl, sym, ap, _∙_, subst}
+use mathlib.Core.Path.{_≡_, refl, sym, ap, _∙_}
 use mathlib.Core.List.{List}
-use Prim.Native.Nat.{ℕ, _≤_, _<_}
+use Prim.Native.Nat.{ℕ, _<_}
 use lib.ListN.{length, take}
-use Rattle.model.specs.Result.{Result, ok, refused}
-use Rattle.model.specs.Text.{Bytes}
-use Rattle.model.specs.Network.{Network}
+use Rattle.model.specs.Result.{refused}
 use Rattle.model.specs.Plan.{Plan, ValidPlan}
 use Rattle.model.specs.PlanText.{readPlan}
 use Rattle.model.specs.Mark.{mark}
 use Rattle.model.specs.Calls.{makePlan}
 use Rattle.model.specs.Demands.{Planned as ModelPlanned, PlansExactly as ModelExactly}
-use Rattle.model.proofs.Lists.{not-ok, ok-is, refusal-number, refusal-place}
+use Rattle.model.proofs.Lists.{not-ok, refusal-number, refusal-place}
 use Rattle.model.proofs.Demands.{planner, limits}
 use Rattle.marker.proofs.Demand.{verdict-pass}
 use Rattle.marker.specs.Marks.{gotsOf}
 use Rattle.planner.specs.declared.writer.Planned.{Planned}
 use Rattle.planner.specs.declared.writer.Planned.the-variants.{Written, Refused}
 use Rattle.planner.specs.Writing.{answerOf}
-use Rattle.planner.specs.Demand.{MadePlan, PlanWritten, Outcome, no-plan, a-plan, Exact, PlansExactly, TooLittleLent, RefusesOnlyShort}
+use Rattle.planner.specs.Demand.{PlanWritten, Outcome, no-plan, a-plan, PlansExactly, RefusesOnlyShort}
 
 -- an answer is told by its number and values
 answer-refused : (a : Planned) (number place : ℕ) → answerOf a ≡ refused number place → a ≡ Refused number place

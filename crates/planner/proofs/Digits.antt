@@ -1,7 +1,7 @@
 -- Bits as numbers, and tests of them.
 -- Assumes nothing.
 use mathlib.Core.Path.{_≡_, sym, _∙_}
-use mathlib.Core.Bool.{Bool, true, false, cond, _&&_}
+use mathlib.Core.Bool.{Bool, true, false, cond}
 use Prim.Native.Nat.{ℕ, _/_, _%_}
 use native.Mathlib.Omega.{arith}
 use native.Mathlib.Nat.{div-zero}
@@ -24,10 +24,3 @@ module _ {A : Type 0} (x : Bool) (r : ℕ) (is : r ≡ bitValue x) (a b : A) whe
 
   pub bit-clear : (r ≡ 1 → ⊥) → b ≡ cond x a b
   bit-clear e = let t : x ≡ false = sym (bit-is x r is) ∙ ne-eqb r 1 e in rw t
-
--- two tests, the first by a branch
-pub first-fails : (n : ℕ) (y : Bool) → (n ≡ 1 → ⊥) → false ≡ (eqb n 1 && y)
-first-fails n y e = rw (ne-eqb n 1 e)
-
-pub first-holds : (n : ℕ) (y : Bool) → n ≡ 1 → y ≡ (eqb n 1 && y)
-first-holds n y e = rw (eq-eqb n 1 e)

@@ -1,86 +1,103 @@
 -- Laws of the search for one network: what the calls in turn ask, and what each ending of the search says.
 -- Assumes nothing.
-use mathlib.Core.Path.{_≡_, sym, ap, _∙_}
-use mathlib.Core.List.{List}
-use Prim.Native.Nat.{ℕ, _-_, _*_, _^_, _≤_, _<_}
+use mathlib.Core.Path.{_≡_, refl, sym, ap, _∙_}
+use mathlib.Core.List.{List, []}
+use Prim.Native.Nat.{ℕ, _+_, _-_, _*_, _^_, _≤_, _<_}
+use native.Mathlib.Nat.{pow-le-pow-right}
 use native.Mathlib.Omega.{arith}
-use lib.ListN.{length, replicate}
-use Rattle.model.specs.Network.{Network as ModelNetwork, steeringBits}
+use lib.ListN.{length, replicate, length-replicate}
+use Rattle.model.specs.Network.{steeringBits, tabulate}
+use Rattle.model.specs.PlanText.{writePlan}
 use Rattle.model.specs.Calls.{writeOver, searchEntries}
 use Rattle.model.proofs.Lists.{length-tabulate}
 use Rattle.path.specs.Layout.{nodesOf, lookIn}
+use Rattle.plan_text.proofs.Writing.{over-none}
+use Rattle.network.specs.declared.draft.Tally.{Tally}
 use Rattle.network.specs.declared.reader.Network.{Network}
 use Rattle.network.specs.Draws.{targetAt}
 use Rattle.network.specs.Reads.{networkOf}
-use Rattle.search.specs.declared.marks.Found.{Found}
-use Rattle.search.specs.declared.marks.Found.the-variants.{Operations, Nothing}
-use Rattle.search.specs.Moves.{MoveTable, sysOf}
-use Rattle.search.specs.Search.{planUpTo}
-use Rattle.search.specs.Marks.{foundOf, withChoices}
+use Rattle.network.proofs.Lines.{zero-at}
 use Rattle.search.specs.Settings.{settingOf, numberOf}
-use Rattle.search.specs.NetworkMoves.{allOf, MovesOf, decode}
-use Rattle.search.proofs.NetworkMoves.{moves-table, start-within, all-within}
+use Rattle.search.specs.Moves.{decode}
+use Rattle.search.proofs.SettingNumbers.{setting-small}
+use Rattle.search.proofs.MoveLaws.{settings-within}
+use Rattle.settings.specs.Steering.{bitsOf}
+use Rattle.settings.specs.Route.{Prepared}
+use Rattle.settings.specs.Rows.{RowsRight}
+use Rattle.settings.proofs.SettingWalk.{planned-few}
+use Rattle.layers.specs.declared.plan.Found.{Found}
+use Rattle.layers.specs.declared.plan.Found.the-variants.{Operations, Nothing}
+use Rattle.layers.specs.Table.{Each}
+use Rattle.layers.specs.Plans.{Starts, PlanFound}
 use Rattle.planner.specs.declared.writer.Planned.{Planned}
-use Rattle.planner.specs.declared.writer.Planned.the-variants.{Refused}
-use Rattle.planner.specs.Settings.{bitsOf}
-use Rattle.planner.specs.Rows.{Prepared, MovesBuilt}
-use Rattle.planner.specs.Writing.{TextOf, HasText, GivesText}
+use Rattle.planner.specs.declared.writer.Planned.the-variants.{Written, Refused}
+use Rattle.planner.specs.Writing.{CountsOf, Countable, GivesText}
 use Rattle.planner.specs.Call.{Searchable, PlansIn}
 use Rattle.planner.proofs.Records.{record-planned, record-number}
-use Rattle.planner.proofs.FilledRecord.{filled-fills}
-use Rattle.planner.proofs.Finding.{found-nothing, FoundPlan, found-plan}
-use Rattle.planner.proofs.Calling.{plans-none, plans-given}
+use Rattle.planner.proofs.Finding.{plan-empty, found-nothing, FoundPlan, found-plan}
+use Rattle.planner.proofs.Calling.{given-written, plans-none, plans-given}
 
--- the steering bits are listed, the table is built, and the number of the start and of all targets are known
-pub record Ready (r : Network) (segments places : List ℕ) (k : ℕ) (mv : List ℕ) (start full : ℕ) : Type 0 where
-  pub prepared : Prepared (networkOf r) (r .nodes) (r .tally) segments places k
-  pub moves : MovesOf (networkOf r) mv
-  pub number : start ≡ numberOf (networkOf r) (networkOf r .start)
-  pub all : full ≡ allOf (networkOf r .targets)
+-- a table of zeros has no row yet
+pub rows-none : (ns steering : List ℕ) (t : Tally) (segments places : List ℕ) (k : ℕ) → RowsRight ns steering t segments places k (replicate 8019 0)
+rows-none ns steering t segments places k = record {
+  size = length-replicate {A = ℕ} 8019 0;
+  right = λ net p x l e. absurd (omega (arith, zero-at 8019 (x * 11 + 0)));
+}
 
 module _ (r : Network) (search : List ℕ) (s : Searchable r search) where
-  few-bits : length (steeringBits (networkOf r .nodes)) ≤ 6
-  few-bits = omega (arith, s .few, s .filled .counted)
+  -- ---- without targets
+
+  pub plans-empty : (plan search′ : List ℕ) → search′ ≡ writeOver (replicate searchEntries 0) search → r .tally .«target_count» ≡ 0 → PlansIn r search plan (Written 0) search′ plan
+  unfolding writePlan
+  plans-empty plan search′ clear e =
+      plans-given r search plan search′ clear [] (plan-empty (networkOf r) (s .accepted) (ap (tabulate (targetAt (r .nodes) (r .tally)) 0) e)) (Written 0) plan
+      (given-written (writePlan []) plan 0 refl (omega arith) plan (sym (over-none plan)))
+
+  -- ---- the steering bits are listed
 
   module _ (segments places : List ℕ) (k : ℕ) (lists : (bitsOf segments places k ≡ steeringBits (nodesOf (r .nodes) (r .tally .count))) × (k ≤ 6)) where
-    pub prepared : Prepared (networkOf r) (r .nodes) (r .tally) segments places k
+    pub prepared : Prepared (networkOf r) (r .nodes) (r .steering) (r .tally) segments places k
     prepared = record-planned r (s .filled) (s .accepted) (s .few) segments places k (lists .0) (lists .1)
 
-    pub ready : (mv : List ℕ) (start full : ℕ) → MovesBuilt (r .nodes) (r .tally) segments places k mv → start ≡ settingOf (bitsOf segments places k) (lookIn (r .bits) (r .known))
-        → full ≡ 2 ^ (r .tally .«target_count») - 1 → Ready r segments places k mv start full
-    ready mv start full built e f = record {
-      prepared = prepared;
-      moves = built (networkOf r) prepared;
-      number = record-number r (s .filled) (s .accepted) (s .few) segments places k (lists .0) (lists .1) start e;
-      all = f ∙ ap (λ (n : ℕ). 2 ^ n - 1) (sym (length-tabulate (targetAt (r .nodes) (r .tally)) 0 (r .tally .«target_count»)));
-    }
+    -- ---- the number of the start is known
 
-  module _ (segments places : List ℕ) (k : ℕ) (mv : List ℕ) (start full : ℕ) (y : Ready r segments places k mv start full) where
-    -- what the search asks
-    pub ready-table : MoveTable mv
-    ready-table = moves-table (networkOf r) (s .accepted) few-bits mv (y .moves)
+    module _ (start : ℕ) (e : start ≡ settingOf (bitsOf segments places k) (lookIn (r .bits) (r .known))) where
+      number : start ≡ numberOf (networkOf r) (networkOf r .start)
+      number = record-number r (s .filled) (s .accepted) (s .few) segments places k (lists .0) (lists .1) start e
 
-    pub ready-start : start * 16 < 11664
-    ready-start = omega (arith, start-within (networkOf r) few-bits, y .number)
+      -- what the search asks
+      module _ (full : ℕ) (f : full ≡ 2 ^ (r .tally .«target_count») - 1) (one : 1 ≤ r .tally .«target_count») where
+        starts : Each (r .nodes) (r .steering) (r .tally) segments places k (λ net. Starts net start full)
+        starts net p = record {
+          within = rw (← (p .bits-are), e) (setting-small (bitsOf segments places k) (lookIn (r .bits) (r .known)));
+          all = f ∙ ap (λ (n : ℕ). 2 ^ n - 1) (sym (ap length (p .targets-are) ∙ length-tabulate (targetAt (r .nodes) (r .tally)) 0 (r .tally .«target_count»)));
+          one = omega (arith, pow-le-pow-right {n = 2} (omega arith) one);
+        }
 
-    pub ready-full : full < 16
-    ready-full = omega (arith, all-within (networkOf r) (s .accepted), y .all)
+        pub search-asks : ((11664 ≤ length search) × (start < 729) × (full < 16) × (16 ≤ length (replicate {A = ℕ} 16 0)))
+            × Each (r .nodes) (r .steering) (r .tally) segments places k (λ net. Starts net start full)
+        search-asks =
+            let few = planned-few (networkOf r) (r .nodes) (r .steering) (r .tally) segments places k prepared in
+            let small : start < 729 = omega (arith, starts (networkOf r) prepared .within, settings-within (length (steeringBits (networkOf r .nodes))) few) in
+            let below : full < 16 = omega (arith, pow-le-pow-right {n = 2} (omega arith) {j = 4} (s .filled .tame .targets-fit)) in
+            ((s .enough, small, below, omega (arith, length-replicate {A = ℕ} 16 0)), starts)
 
-    -- what it answers
-    module _ (plan search′ : List ℕ) (clear : search′ ≡ writeOver (replicate searchEntries 0) search) (f : Found) (is : f ≡ foundOf (planUpTo (sysOf mv full) 16 (start * 16))) where
-      pub finds-none : f ≡ Nothing → PlansIn r search plan (Refused 11 0) search′ plan
-      finds-none e = plans-none r search plan search′ clear (found-nothing (networkOf r) (s .accepted) mv (y .moves) start (y .number) full (y .all) f is e)
+      -- what it answers
+      module _ (plan search′ : List ℕ) (clear : search′ ≡ writeOver (replicate searchEntries 0) search) (f : Found) (picked : List ℕ)
+          (is : Each (r .nodes) (r .steering) (r .tally) segments places k (λ net. PlanFound net start (replicate 16 0) f picked)) where
+        pub finds-none : f ≡ Nothing → PlansIn r search plan (Refused 11 0) search′ plan
+        finds-none q = plans-none r search plan search′ clear (found-nothing (networkOf r) (s .accepted) start number (is (networkOf r) prepared) q)
 
-      module _ (picked : List ℕ) (n : ℕ) (e : f ≡ Operations n) (holds : picked ≡ withChoices (planUpTo (sysOf mv full) 16 (start * 16)) (replicate 16 0)) where
-        found : FoundPlan (networkOf r) (s .accepted) mv (y .moves) start (y .number) full (y .all) picked n
-        found = found-plan (networkOf r) (s .accepted) mv (y .moves) start (y .number) full (y .all) f picked n is e holds
+        module _ (n : ℕ) (q : f ≡ Operations n) where
+          found : FoundPlan (networkOf r) (s .accepted) start number picked n
+          found = found-plan (networkOf r) (s .accepted) start number picked n (is (networkOf r) prepared) q
 
-        text-of : TextOf (networkOf r) (r .nodes) (r .steering) (r .tally) segments places k mv start picked n (found .cs)
-        text-of = record { counts = record { prepared = y .prepared; picks = found .picks }; fills = filled-fills r (s .filled) }
+          counts-of : CountsOf (networkOf r) (r .nodes) (r .steering) (r .tally) segments places k start picked n (found .cs)
+          counts-of = record { prepared = prepared; picks = found .picks }
 
-        -- what its text asks
-        pub has-text : HasText (r .nodes) (r .steering) (r .tally) segments places k mv start picked n
-        has-text = (networkOf r, found .cs, text-of)
+          -- what its text asks
+          pub has-text : Countable (r .nodes) (r .steering) (r .tally) segments places k start picked n
+          has-text = (networkOf r, found .cs, counts-of)
 
-        pub finds-plan : (a : Planned) (plan′ : List ℕ) → GivesText (r .nodes) (r .steering) (r .tally) segments places k mv start picked n plan a plan′ → PlansIn r search plan a search′ plan′
-        finds-plan a plan′ g = plans-given r search plan search′ clear (decode (networkOf r) mv start (found .cs)) (found .plan-found) a plan′ (g (networkOf r) (found .cs) text-of)
+          pub finds-plan : (a : Planned) (plan′ : List ℕ) → GivesText (r .nodes) (r .steering) (r .tally) segments places k start picked n plan a plan′ → PlansIn r search plan a search′ plan′
+          finds-plan a plan′ g = plans-given r search plan search′ clear (decode (networkOf r) start (found .cs)) (found .plan-found) a plan′ (g (networkOf r) (found .cs) counts-of)

@@ -1,20 +1,23 @@
 -- The bits of a choice written place by place, and segment by segment.
 -- Assumes nothing.
 use mathlib.Core.Path.{_≡_, refl, sym, ap, _∙_, subst}
-use mathlib.Core.Bool.{cond}
+use mathlib.Core.Bool.{Bool, false, cond}
 use mathlib.Core.List.{List, [], _∷_, _++_, map, map-append, append-assoc}
-use Prim.Native.Nat.{ℕ, suc, _+_, _/_, _%_, _≤_, _<_}
+use Prim.Native.Nat.{ℕ, zero, suc, _+_, _/_, _%_, _≤_, _<_}
 use native.Mathlib.Omega.{arith}
 use native.Mathlib.Nat.{zero-add}
 use native.Mathlib.Numerals.{add-one}
 use lib.Dec.{eqb}
-use lib.ListN.{length, set, length-append}
-use Rattle.model.specs.Network.{Network}
+use lib.ListN.{length, set, replicate, length-append}
+use Rattle.model.specs.Network.{Network, tabulate, steers}
 use Rattle.model.specs.Path.{ScanPath, pathLength}
+use Rattle.model.specs.Plan.{wanted}
 use Rattle.model.specs.Tap.{bitByte}
 use Rattle.model.proofs.Lists.{length-tabulate}
 use Rattle.path.specs.Layout.{wordBit}
+use Rattle.path.proofs.WordLaws.{zero-bit}
 use Rattle.network.proofs.Drawing.{tabulate-snoc}
+use Rattle.plan_text.specs.Writing.{writeAt}
 use Rattle.plan_text.proofs.Writing.{write-none, write-more, write-behind}
 use Rattle.search.specs.Choices.{placesOf, bitAt, leftAt, bitsFrom, leftAfter}
 use Rattle.search.proofs.Choices.{bits-append, left-append, bits-more, left-more}
@@ -103,3 +106,31 @@ module _ (at len steer want h c : ℕ) (old : List ℕ) where
   putting-all i left buf a b p net s w =
       let e : i ≡ len = omega arith in
       subst (λ (k : ℕ). BitsPut net (segmentPlaces s k) at h c old left buf) e (p net s w)
+
+-- ---- a segment of which no bit steers, with no bit to write
+
+module _ (net : Network) (s len : ℕ) (w : WordsOf net s len 0 0) (h c : ℕ) where
+  not-steering : (b : ℕ) → b < len → steers (net .nodes) s b ≡ false
+  not-steering b l = sym (w .steers-are b l) ∙ zero-bit b
+
+  not-wanted : (b : ℕ) → b < len → wanted (net .targets) s b ≡ false
+  not-wanted b l = sym (w .wants-are b l) ∙ zero-bit b
+
+  zero-bytes : (n b : ℕ) → b + n ≤ len → map bitByte (bitsFrom net (tabulate (λ i. (s, i)) b n) h c) ≡ replicate n 48
+  unfolding bitsFrom
+  zero-bytes zero b l = refl
+  zero-bytes (suc n) b l = rw (not-steering b (omega arith), not-wanted b (omega arith), zero-bytes n (suc b) (omega arith))
+
+  none-taken : (n b : ℕ) → b + n ≤ len → leftAfter net (tabulate (λ i. (s, i)) b n) h ≡ h
+  unfolding leftAfter
+  none-taken zero b l = refl
+  none-taken (suc n) b l =
+      ap (λ (t : Bool). leftAfter net (tabulate (λ i. (s, i)) (suc b) n) (cond t (h / 2) h)) (not-steering b (omega arith)) ∙ none-taken n (suc b) (omega arith)
+
+pub zeros-put : (at len steer want h c : ℕ) (old new : List ℕ) → steer ≡ 0 → want ≡ 0 → new ≡ writeAt at (replicate len 48) old → SegmentPut at len steer want h c old h new
+zeros-put at len steer want h c old new a b e net s w =
+    let z : WordsOf net s len 0 0 = rw (a, b) at w in
+    record {
+      left = sym (none-taken net s len z h c len 0 (omega arith));
+      holds = e ∙ ap (λ (l : List ℕ). writeAt at l old) (sym (zero-bytes net s len z h c len 0 (omega arith)));
+    }

@@ -1,4 +1,4 @@
--- Laws for the caller that has a record: what the record gives to the calls of this crate, and what they give for its network.
+-- Laws for the caller that has a record: what the record gives to the calls on the settings, and what they give for its network.
 -- Assumes nothing.
 use mathlib.Core.Path.{_≡_, refl, sym, ap, _∙_, subst}
 use mathlib.Core.List.{List, List·Memᴰ}
@@ -10,19 +10,16 @@ use Rattle.model.specs.Network.{Node, at, noNode, lenOf, steeringBits}
 use Rattle.model.specs.Path.{bitOf}
 use Rattle.model.proofs.Accepted.{Accepted}
 use Rattle.model.proofs.Lists.{length-tabulate}
-use Rattle.path.specs.Layout.{nodeAt, nodesOf, configOf, lookIn}
+use Rattle.path.specs.Layout.{nodeAt, nodesOf, wordWidth, configOf, lookIn}
 use Rattle.path.proofs.ConfigLaws.{config-bit, at-tabulate, good-most}
 use Rattle.network.specs.declared.reader.Network.{Network}
 use Rattle.network.specs.Draws.{Short}
 use Rattle.network.specs.Reads.{networkOf, Filled}
 use Rattle.search.specs.Settings.{settingOf, numberOf}
-use Rattle.search.specs.Moves.{MoveTable}
-use Rattle.search.specs.NetworkMoves.{MovesOf}
 use Rattle.search.proofs.Steering.{steering-bit}
 use Rattle.search.proofs.SettingNumbers.{setting-same}
-use Rattle.search.proofs.NetworkMoves.{moves-table}
-use Rattle.planner.specs.Settings.{bitsOf, Steered}
-use Rattle.planner.specs.Rows.{Prepared, MovesBuilt}
+use Rattle.settings.specs.Steering.{bitsOf, Steered}
+use Rattle.settings.specs.Route.{Prepared}
 
 module _ (r : Network) (filled : Filled r) (accepted : Accepted (networkOf r)) (few : r .«steering_count» ≤ 6) where
   record-length : length (nodesOf (r .nodes) (r .tally .count)) ≡ r .tally .count
@@ -34,7 +31,7 @@ module _ (r : Network) (filled : Filled r) (accepted : Accepted (networkOf r)) (
   record-short : Short (r .nodes) (r .tally .count)
   record-short zero a b = absurd (not-suc-le-zero a)
   record-short (suc n) a b =
-      subst (λ (nd : Node). lenOf nd ≤ 32) (record-node (suc n) a b)
+      subst (λ (nd : Node). lenOf nd ≤ wordWidth) (record-node (suc n) a b)
       (good-most (nodesOf (r .nodes) (r .tally .count)) (suc n) (getD (nodesOf (r .nodes) (r .tally .count)) n noNode) (accepted .wf .backwards n (omega (arith, record-length))))
 
   -- what `list_steering` asks
@@ -43,12 +40,13 @@ module _ (r : Network) (filled : Filled r) (accepted : Accepted (networkOf r)) (
 
   module _ (segments places : List ℕ) (k : ℕ) (lists : bitsOf segments places k ≡ steeringBits (nodesOf (r .nodes) (r .tally .count))) (small : k ≤ 6) where
     -- what the other calls ask, with what `list_steering` tells
-    pub record-planned : Prepared (networkOf r) (r .nodes) (r .tally) segments places k
+    pub record-planned : Prepared (networkOf r) (r .nodes) (r .steering) (r .tally) segments places k
     record-planned = record {
       stored = record { nodes = refl; feeds = refl; most = filled .tame .nodes-fit; formed = accepted .wf };
       accepted = accepted;
       targets-are = refl;
       tame = filled .tame;
+      steering-is = filled .steering-is;
       bits-are = lists;
       few = small;
     }
@@ -65,10 +63,3 @@ module _ (r : Network) (filled : Filled r) (accepted : Accepted (networkOf r)) (
             let b = steering-bit (nodesOf (r .nodes) (r .tally .count)) q m in
             let most : q .0 ≤ r .tally .count = omega (arith, b .most, record-length) in
             config-bit (r .nodes) (r .bits) (r .known) (r .tally .count) (q .0) (q .1) (b .least) most (subst (λ (nd : Node). q .1 < lenOf nd) (record-node (q .0) (b .least) most) (b .inside))
-
-    -- the table, as `build_moves` leaves it
-    pub record-moves : (mv : List ℕ) → MovesBuilt (r .nodes) (r .tally) segments places k mv → MovesOf (networkOf r) mv
-    record-moves mv m = m (networkOf r) record-planned
-
-    pub record-table : (mv : List ℕ) → MovesBuilt (r .nodes) (r .tally) segments places k mv → MoveTable mv
-    record-table mv m = moves-table (networkOf r) accepted (omega (arith, filled .counted)) mv (record-moves mv m)

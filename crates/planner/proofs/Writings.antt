@@ -1,28 +1,30 @@
 -- Laws of the two loops over the choices, for every network that the arrays hold: what their calls ask, and the loops' turns.
 -- Assumes nothing.
-use mathlib.Core.Path.{_≡_, refl, ap, _∙_}
+use mathlib.Core.Path.{_≡_, refl, sym, ap, _∙_, subst}
 use mathlib.Core.List.{List}
 use Prim.Native.Nat.{ℕ, _+_, _≤_, _<_}
 use native.Mathlib.Omega.{arith}
-use lib.ListN.{length, getD, take, drop}
-use Rattle.model.specs.Network.{Network, steeringBits}
-use Rattle.model.specs.Path.{pathLength}
+use lib.ListN.{length, getD, take}
+use Rattle.model.specs.Network.{Target, Network, steeringBits}
+use Rattle.model.specs.Path.{path, pathLength}
+use Rattle.model.specs.Plan.{wanted}
 use Rattle.path.specs.Layout.{scanPath}
-use Rattle.path.specs.Answers.{HoldsPath, told, Sized}
+use Rattle.path.specs.Answers.{HoldsPath, Holds, told}
 use Rattle.path.specs.declared.walk.Walked.{Walked}
 use Rattle.path.specs.declared.walk.Walked.the-variants.{Path, Stop as Stopped}
 use Rattle.network.specs.declared.draft.Tally.{Tally}
-use Rattle.search.specs.Moves.{count, land, MoveTable}
-use Rattle.search.specs.NetworkMoves.{StepOf, Follows}
-use Rattle.search.proofs.NetworkMoves.{moves-table, settings-within}
-use Rattle.planner.specs.Line.{HasRoom, LinePut}
-use Rattle.planner.specs.Rows.{SettingWalked}
-use Rattle.planner.specs.Writing.{CountsOf, Counts, WritesOf, Writes}
-use Rattle.planner.proofs.Building.{planned-few, path-walk, path-holds}
+use Rattle.search.specs.Moves.{land, StepOf}
+use Rattle.search.specs.Settings.{walkAt}
+use Rattle.search.proofs.MoveLaws.{settings-within, path-short, land-within}
+use Rattle.settings.specs.Route.{Prepared, SettingWalked}
+use Rattle.settings.specs.Rows.{rowNumber, RowsRight, Lands, Landing, LandsIn}
+use Rattle.settings.proofs.SettingWalk.{planned-few}
+use Rattle.planner.specs.Line.{WantsOf, HasRoom, Fills, LinePut}
+use Rattle.planner.specs.Writing.{LandIn, CountsOf, Counts, WritesOf, Writes}
 use Rattle.planner.proofs.WholeText.{
+  Passed,
   Counted,
   Written,
-  path-short,
   count-none,
   count-more,
   count-all,
@@ -35,127 +37,138 @@ use Rattle.planner.proofs.WholeText.{
   no-stop,
 }
 
--- ---- one turn
+-- what the writers of a line ask
+pub prepared-fills : {net : Network} {ns steering : List ℕ} {t : Tally} {segments places : List ℕ} {k : ℕ} {wants : List ℕ} → Prepared net ns steering t segments places k → WantsOf t wants
+    → Fills net ns steering wants
+prepared-fills {ns = ns} p w =
+    record { steering-is = p .steering-is; wants-are = λ s b l inside. w .are s l ns b inside ∙ ap (λ (ts : List Target). wanted ts s b) (sym (p .targets-are)) }
 
--- choice c can be made in setting x, and the table can be asked for it
-pub record Turn (net : Network) (mv : List ℕ) (x c : ℕ) : Type 0 where
-  pub table : MoveTable mv
-  pub small : x < 729
-  pub step : StepOf net mv x c
+-- ---- the setting that choice c leads to, from the list of all
 
-module _ {net : Network} {ns : List ℕ} {t : Tally} {segments places : List ℕ} {k : ℕ} {mv : List ℕ} {start : ℕ} {picked : List ℕ} {n : ℕ} {cs : List ℕ}
-    (o : CountsOf net ns t segments places k mv start picked n cs) (i x c : ℕ) (l : i < n) (is : c ≡ getD picked i 0) (f : Follows net mv x (drop i cs)) where
-  inside : i < length cs
-  inside = omega (arith, o .picks .long)
+module _ {rows : List ℕ} {x c r : ℕ} {lands : List ℕ} (less : c < rowNumber rows x 1) (list : LandsIn rows x r lands) where
+  listed : {net : Network} → Lands net rows x → c < r
+  listed {net} d = omega (arith, d .row .count-is, list .of net d .count-is)
 
-  choice-is : c ≡ getD cs i 0
-  choice-is = is ∙ o .picks .are i l
+  pub land-listed : Landing rows x → c < 64
+  land-listed d = omega (arith, listed (d .1), list .most)
 
-  pub turn : Turn net mv x c
-  turn =
-      let few = planned-few net ns t segments places k (o .prepared) in
-      let st = step-made net (o .prepared .accepted) mv (o .picks .moves) cs i c inside choice-is x f in
-      record {
-        table = moves-table net (o .prepared .accepted) few mv (o .picks .moves);
-        small = omega (arith, st .within, settings-within (length (steeringBits (net .nodes))) few);
-        step = st;
-      }
+  pub land-in : Landing rows x → {y : ℕ} → y ≡ getD lands c 0 → LandIn rows x c y
+  land-in d {y} e = record {
+    of = to;
+    small = omega (arith, to (d .0) (d .1), land-within (d .0) x c, settings-within (length (steeringBits (d .0 .nodes))) (d .1 .few));
+  }
+    where
+      to : (net : Network) → Lands net rows x → y ≡ land net x c
+      to net d = e ∙ list .of net d .lands-are c (listed d)
 
-  pub not-stopped : {r : Walked} {way : List ℕ} → SettingWalked ns t segments places k x r way → (m : ℕ) → r ≡ Stopped m → ⊥
-  not-stopped {way = way} w m e = no-stop (turn .step) m (w net (o .prepared) .tells ∙ ap (told ns way) e)
+-- ---- one turn: i choices are passed, and x is the setting behind them
+
+module _ {net : Network} {ns steering : List ℕ} {t : Tally} {segments places : List ℕ} {k start : ℕ} {picked : List ℕ} {n : ℕ} {cs : List ℕ}
+    (o : CountsOf net ns steering t segments places k start picked n cs) where
+  few : length (steeringBits (net .nodes)) ≤ 6
+  few = planned-few net ns steering t segments places k (o .prepared)
+
+  first-passed : Passed net cs 0 start
+  first-passed = record { small = o .picks .within; follows = o .picks .follows }
+
+  module _ {i x : ℕ} (f : Passed net cs i x) where
+    pub turn-small : x < 729
+    turn-small = omega (arith, f .small, settings-within (length (steeringBits (net .nodes))) few)
+
+    module _ (l : i < n) where
+      inside : i < length cs
+      inside = omega (arith, o .picks .long)
+
+      module _ {c : ℕ} (is : c ≡ getD picked i 0) where
+        choice-is : c ≡ getD cs i 0
+        choice-is = is ∙ o .picks .are i l
+
+        turn-step : StepOf net x c
+        turn-step = step-made net (o .prepared .accepted) cs i c inside choice-is x f
+
+    -- row x is known
+    module _ {rows : List ℕ} (right : RowsRight ns steering t segments places k rows) (known : rowNumber rows x 0 ≡ 1) where
+      pub turn-lands : Lands net rows x
+      turn-lands = record { accepted = o .prepared .accepted; few = few; row = right .right net (o .prepared) x turn-small known }
+
+      pub turn-choice : i < n → {c : ℕ} → c ≡ getD picked i 0 → c < rowNumber rows x 1
+      turn-choice l is = omega (arith, turn-step l is .chosen, turn-lands .row .count-is)
 
 -- ---- the length
 
-pub record Counting (ns : List ℕ) (t : Tally) (segments places : List ℕ) (k : ℕ) (mv : List ℕ) (start : ℕ) (picked : List ℕ) (n i x sum : ℕ) (bits known way : List ℕ) : Type 0 where
-  pub sized : Sized bits known
-  pub way-size : length way ≡ 128
-  pub counted : (net : Network) (cs : List ℕ) → CountsOf net ns t segments places k mv start picked n cs → Counted net mv start cs i x sum
+abbrev pub Counting : List ℕ → List ℕ → Tally → List ℕ → List ℕ → ℕ → ℕ → List ℕ → ℕ → ℕ → ℕ → ℕ → Type 0
+Counting ns steering t segments places k start picked n i x sum =
+    (net : Network) (cs : List ℕ) → CountsOf net ns steering t segments places k start picked n cs → Counted net start cs i x sum
 
-pub counting-none : (ns : List ℕ) (t : Tally) (segments places : List ℕ) (k : ℕ) (mv : List ℕ) (start : ℕ) (picked : List ℕ) (n : ℕ) (bits known way : List ℕ) → Sized bits known → length way ≡ 128
-    → Counting ns t segments places k mv start picked n 0 start 0 bits known way
-counting-none ns t segments places k mv start picked n bits known way sized w =
-    record { sized = sized; way-size = w; counted = λ net cs o. count-none net mv start cs (o .picks .follows) }
+module _ {ns steering : List ℕ} {t : Tally} {segments places : List ℕ} {k start : ℕ} {picked : List ℕ} {n : ℕ} where
+  pub counting-none : Counting ns steering t segments places k start picked n 0 start 0
+  counting-none net cs o = count-none net start cs (first-passed o)
 
-module _ {ns : List ℕ} {t : Tally} {segments places : List ℕ} {k : ℕ} {mv : List ℕ} {start : ℕ} {picked : List ℕ} {n i x sum : ℕ} {bits known way : List ℕ}
-    (s : Counting ns t segments places k mv start picked n i x sum bits known way) where
-  module _ {net : Network} {cs : List ℕ} (o : CountsOf net ns t segments places k mv start picked n cs) (l : i < n) where
-    pub counting-turn : (c : ℕ) → c ≡ getD picked i 0 → Turn net mv x c
-    counting-turn c is = turn o i x c l is (s .counted net cs o .follows)
+  module _ {i x sum : ℕ} (s : Counting ns steering t segments places k start picked n i x sum) where
+    -- its line has 5 bytes and the bits of the path, whose count is in the row
+    module _ (l : i < n) {rows : List ℕ} (right : RowsRight ns steering t segments places k rows) (known : rowNumber rows x 0 ≡ 1) {len : ℕ} (long : len ≡ rowNumber rows x 4) where
+      path-long : (net : Network) (cs : List ℕ) (o : CountsOf net ns steering t segments places k start picked n cs) → len ≡ pathLength (turn-step o (s net cs o .passed) l refl .route)
+      path-long net cs o =
+          let f = s net cs o .passed in
+          let st = turn-step o f l refl in
+          long ∙ turn-lands o f right known .row .routed (st .route) (st .walks) .length-is
 
-    pub counting-fits : {way′ : List ℕ} {m : ℕ} → HoldsPath ns way′ m → (len : ℕ) → len ≡ pathLength (scanPath ns (take m way′)) → sum + (5 + len) ≤ 65616
-    counting-fits {way′} {m} h len e = omega (arith, path-short ns way′ m h, s .counted net cs o .bound, o .picks .most)
+      pub counting-fits : {net : Network} {cs : List ℕ} → CountsOf net ns steering t segments places k start picked n cs → sum + (5 + len) ≤ 64080
+      counting-fits {net} {cs} o =
+          let st = turn-step o (s net cs o .passed) l refl in
+          omega (arith, path-long net cs o, path-short net (o .prepared .accepted) x (st .route) (st .walks), s net cs o .bound, o .picks .most)
 
-  module _ (l : i < n) {r : Walked} {way′ : List ℕ} (w : SettingWalked ns t segments places k x r way′) where
-    pub counting-stops : (m : ℕ) → r ≡ Stopped m → Counts ns t segments places k mv start picked n sum
-    counting-stops m e net cs o = absurd (not-stopped o i x (getD picked i 0) l refl (s .counted net cs o .follows) w m e)
+      pub counting-more : {c : ℕ} → c ≡ getD picked i 0 → {next : ℕ} → LandIn rows x c next → Counting ns steering t segments places k start picked n (i + 1) next (sum + (5 + len))
+      counting-more {c} is {next} to net cs o =
+          let f = s net cs o .passed in
+          let st = turn-step o f l refl in
+          count-more net (o .prepared .accepted) cs i c (inside o f l) (choice-is o f l is) (st .route) (st .walks) (s net cs o) len next (path-long net cs o)
+          (to .of net (turn-lands o f right known))
 
-    pub counting-more : (m : ℕ) → r ≡ Path m → (c : ℕ) → c ≡ getD picked i 0 → (len next : ℕ) → len ≡ pathLength (scanPath ns (take m way′)) → next ≡ land mv x c
-        → (bits′ known′ : List ℕ) → Sized bits′ known′ → length way′ ≡ 128 → Counting ns t segments places k mv start picked n (i + 1) next (sum + (5 + len)) bits′ known′ way′
-    counting-more m e c is len next long to bits′ known′ sized size = record {
-      sized = sized;
-      way-size = size;
-      counted = λ net cs o.
-          let f = s .counted net cs o .follows in
-          count-more net (o .prepared .accepted) mv (o .picks .moves) cs i c (inside o i x c l is f) (choice-is o i x c l is f) (scanPath ns (take m way′)) (path-walk (o .prepared) w m e)
-          (s .counted net cs o) len next long (omega (arith, path-short ns way′ m (path-holds (o .prepared) w m e))) to;
-    }
-
-  pub counting-all : n ≤ i → Counts ns t segments places k mv start picked n sum
-  counting-all l net cs o = count-all (omega (arith, o .picks .long)) (s .counted net cs o)
+    pub counting-all : n ≤ i → Counts ns steering t segments places k start picked n sum
+    counting-all l net cs o = count-all (omega (arith, o .picks .long)) (s net cs o)
 
 -- ---- the text
 
-pub record Writing (ns steering : List ℕ) (t : Tally) (segments places : List ℕ) (k : ℕ) (mv : List ℕ) (start : ℕ) (picked : List ℕ) (n : ℕ) (old : List ℕ) (i x place : ℕ) (buf bits known way : List ℕ)
-    : Type 0 where
-  pub sized : Sized bits known
-  pub way-size : length way ≡ 128
-  pub written : (net : Network) (cs : List ℕ) → WritesOf net ns steering t segments places k mv start picked n old cs → Written net mv start cs old i x place buf
+abbrev pub Writing : List ℕ → List ℕ → Tally → List ℕ → List ℕ → ℕ → ℕ → List ℕ → ℕ → List ℕ → ℕ → ℕ → ℕ → List ℕ → Type 0
+Writing ns steering t segments places k start picked n old i x place buf =
+    (net : Network) (cs : List ℕ) → WritesOf net ns steering t segments places k start picked n old cs → Written net start cs old i x place buf
 
-pub writing-none : (ns steering : List ℕ) (t : Tally) (segments places : List ℕ) (k : ℕ) (mv : List ℕ) (start : ℕ) (picked : List ℕ) (n : ℕ) (old bits known way : List ℕ)
-    → Sized bits known → length way ≡ 128 → Writing ns steering t segments places k mv start picked n old 0 start 0 old bits known way
-writing-none ns steering t segments places k mv start picked n old bits known way sized w =
-    record { sized = sized; way-size = w; written = λ net cs o. text-none net mv start cs (o .counts .picks .follows) old }
+module _ {ns steering : List ℕ} {t : Tally} {segments places : List ℕ} {k start : ℕ} {picked : List ℕ} {n : ℕ} {old : List ℕ} where
+  pub writing-none : Writing ns steering t segments places k start picked n old 0 start 0 old
+  writing-none net cs o = text-none net start cs (first-passed (o .counts)) old
 
-module _ {ns steering : List ℕ} {t : Tally} {segments places : List ℕ} {k : ℕ} {mv : List ℕ} {start : ℕ} {picked : List ℕ} {n : ℕ} {old : List ℕ} {i x place : ℕ} {buf bits known way : List ℕ}
-    (s : Writing ns steering t segments places k mv start picked n old i x place buf bits known way) where
-  module _ {net : Network} {cs : List ℕ} (o : WritesOf net ns steering t segments places k mv start picked n old cs) where
-    pub writing-size : length buf ≡ length old
-    writing-size = s .written net cs o .size
+  module _ {i x place : ℕ} {buf : List ℕ} (s : Writing ns steering t segments places k start picked n old i x place buf) where
+    module _ (l : i < n) {r : Walked} {way : List ℕ} (w : SettingWalked ns steering t segments places k x r way) where
+      pub writing-stops : (m : ℕ) → r ≡ Stopped m → Writes ns steering t segments places k start picked n old buf
+      writing-stops m e net cs o = absurd (no-stop (turn-step (o .counts) (s net cs o .passed) l refl) m (w net (o .counts .prepared) .tells ∙ ap (told ns way) e))
 
-    module _ (l : i < n) where
-      pub writing-turn : (c : ℕ) → c ≡ getD picked i 0 → Turn net mv x c
-      writing-turn c is = turn (o .counts) i x c l is (s .written net cs o .follows)
+      module _ (m : ℕ) (e : r ≡ Path m) where
+        path-walk : {net : Network} → Prepared net ns steering t segments places k → walkAt net x ≡ path (scanPath ns (take m way))
+        path-walk {net} p = w net p .tells ∙ ap (told ns way) e
 
-      -- what `put_line` asks
-      pub writing-room : {r : Walked} {way′ : List ℕ} → SettingWalked ns t segments places k x r way′ → (m : ℕ) → r ≡ Path m → HasRoom ns way′ m (place + 5) buf
-      writing-room {way′ = way′} w m e =
-          let q = o .counts in
-          let f = s .written net cs o .follows in
-          line-room ns way′ m place buf (path-holds (q .prepared) w m e)
-          (omega (
-            arith,
-            writing-size,
-            text-room net (q .prepared .accepted) mv (q .picks .moves) cs i (getD picked i 0) (inside q i x _ l refl f) (choice-is q i x _ l refl f) (scanPath ns (take m way′))
-                (path-walk (q .prepared) w m e) (s .written net cs o) (o .room),
-          ))
+        -- what `put_line` asks
+        pub writing-room : {net : Network} {cs : List ℕ} → WritesOf net ns steering t segments places k start picked n old cs → HasRoom ns way m (place + 5) buf
+        writing-room {net} {cs} o =
+            let q = o .counts in
+            let f = s net cs o .passed in
+            let holds : HoldsPath ns way m = subst (Holds ns way) e (w net (q .prepared) .holds) in
+            line-room ns way m place buf holds
+            (omega (
+              arith,
+              s net cs o .size,
+              text-room net (q .prepared .accepted) cs i (getD picked i 0) (inside q f l) (choice-is q f l refl) (scanPath ns (take m way)) (path-walk (q .prepared)) (s net cs o) (o .room),
+            ))
 
-  module _ (l : i < n) {r : Walked} {way′ : List ℕ} (w : SettingWalked ns t segments places k x r way′) where
-    pub writing-stops : (m : ℕ) → r ≡ Stopped m → Writes ns steering t segments places k mv start picked n old buf
-    writing-stops m e net cs o = absurd (not-stopped (o .counts) i x (getD picked i 0) l refl (s .written net cs o .follows) w m e)
+        pub writing-more : {rows : List ℕ} → RowsRight ns steering t segments places k rows → rowNumber rows x 0 ≡ 1 → {c : ℕ} → c ≡ getD picked i 0
+            → {h next end : ℕ} {new : List ℕ} → h ≡ rowNumber rows x 1 → LandIn rows x c next → end ≡ place + (5 + pathLength (scanPath ns (take m way)))
+            → length new ≡ length buf → {wants : List ℕ} → WantsOf t wants → LinePut ns steering wants way m place h c buf new → Writing ns steering t segments places k start picked n old (i + 1) next end new
+        writing-more right known {c} is {h} {next} {end} {new} choices to behind same ws put net cs o =
+            let q = o .counts in
+            let f = s net cs o .passed in
+            let lands = turn-lands q f right known in
+            text-more net (q .prepared .accepted) cs i c (inside q f l) (choice-is q f l is) (scanPath ns (take m way)) (path-walk (q .prepared)) (s net cs o) (o .room) h next end new
+            (choices ∙ lands .row .count-is) (to .of net lands) behind same (put net (prepared-fills (q .prepared) ws))
 
-    pub writing-more : (m : ℕ) → r ≡ Path m → (c : ℕ) → c ≡ getD picked i 0 → (h next end : ℕ) (new : List ℕ) → h ≡ count mv x → next ≡ land mv x c
-        → end ≡ place + (5 + pathLength (scanPath ns (take m way′))) → length new ≡ length buf → LinePut ns steering t way′ m place h c buf new
-        → (bits′ known′ : List ℕ) → Sized bits′ known′ → length way′ ≡ 128
-        → Writing ns steering t segments places k mv start picked n old (i + 1) next end new bits′ known′ way′
-    writing-more m e c is h next end new choices to behind same put bits′ known′ sized size = record {
-      sized = sized;
-      way-size = size;
-      written = λ net cs o.
-          let q = o .counts in
-          let f = s .written net cs o .follows in
-          text-more net (q .prepared .accepted) mv (q .picks .moves) cs i c (inside q i x c l is f) (choice-is q i x c l is f) (scanPath ns (take m way′)) (path-walk (q .prepared) w m e)
-          (s .written net cs o) (o .room) h next end new choices to behind same (put net (o .fills));
-    }
-
-  pub writing-all : n ≤ i → Writes ns steering t segments places k mv start picked n old buf
-  writing-all l net cs o = text-all (omega (arith, o .counts .picks .long)) (s .written net cs o)
+    pub writing-all : n ≤ i → Writes ns steering t segments places k start picked n old buf
+    writing-all l net cs o = text-all (omega (arith, o .counts .picks .long)) (s net cs o)

@@ -1,7 +1,4 @@
--- What the contracts of the planner cite: the steering bits in arrays, the rows of the table of moves, the lines of the plan text
--- and the whole text.
-pub mod Settings
-pub mod Rows
+-- What the contracts of the planner cite: the lines of the plan text, the whole text, the call, and the demand on it.
 pub mod Line
 pub mod Writing
 pub mod Call

@@ -1,20 +1,22 @@
--- What the writers of an operation's line answer and write, for any network that their words and targets are those of.
+-- What the writers of an operation's line answer and write, for any network that their words are those of.
 -- Assumes nothing.
 use mathlib.Core.Path.{_≡_}
+use mathlib.Core.Bool.{cond}
 use mathlib.Core.List.{List, map}
 use Prim.Native.Nat.{ℕ, _+_, _≤_, _<_}
-use lib.ListN.{length, getD, take}
+use lib.Dec.{eqb}
+use lib.ListN.{length, getD, set, take}
 use Rattle.model.specs.Network.{Network, lenOf, steers, tabulate}
 use Rattle.model.specs.Path.{ScanPath, pathLength}
 use Rattle.model.specs.Plan.{wanted}
 use Rattle.model.specs.PlanText.{writePlan}
 use Rattle.model.specs.Tap.{bitByte}
-use Rattle.path.specs.Layout.{nodeAt, wordBit, scanPath}
+use Rattle.path.specs.Layout.{nodeAt, wordWidth, wordBit, scanPath}
 use Rattle.path.specs.Answers.{HoldsPath}
 use Rattle.network.specs.declared.draft.Tally.{Tally}
 use Rattle.network.specs.Draws.{targetsOf}
 use Rattle.plan_text.specs.Writing.{writeAt, lineText}
-use Rattle.search.specs.NetworkMoves.{decode}
+use Rattle.search.specs.Moves.{decode}
 use Rattle.search.specs.Choices.{placesOf, bitsFrom, leftAfter}
 
 -- ---- a segment
@@ -22,6 +24,15 @@ use Rattle.search.specs.Choices.{placesOf, bitsFrom, leftAfter}
 -- the word of bits that the planner shifts to segment s where it does not steer
 abbrev pub WantedWord : Tally → ℕ → ℕ → Type 0
 WantedWord t s r = (ns : List ℕ) (b : ℕ) → b < lenOf (nodeAt ns s) → wordBit r b ≡ wanted (targetsOf ns t) s b
+
+-- that word for each segment
+pub record WantsOf (t : Tally) (wants : List ℕ) : Type 0 where
+  pub size : length wants ≡ 129
+  pub are : (s : ℕ) → s ≤ 128 → WantedWord t s (getD wants s 0)
+
+-- the words with the bits of a target, by its segment and its word, put in if it is a write target
+abbrev pub wantsWith : ℕ → ℕ → ℕ → List ℕ → List ℕ
+wantsWith segment word bits wants = cond (eqb word 1) (set wants segment bits) wants
 
 -- the two words of segment s, as far as its len bits go: those that steer, and what the planner shifts to the others
 pub record WordsOf (net : Network) (s len steer want : ℕ) : Type 0 where
@@ -47,26 +58,26 @@ pub record HasRoom (ns way : List ℕ) (n at : ℕ) (old : List ℕ) : Type 0 wh
   pub holds : HoldsPath ns way n
   pub room : at + pathLength (scanPath ns (take n way)) ≤ length old
 
--- the words of steering bits and the targets are the network's
-pub record Fills (net : Network) (ns steering : List ℕ) (t : Tally) : Type 0 where
-  pub steering-is : (s b : ℕ) → s ≤ 128 → b < 32 → wordBit (getD steering s 0) b ≡ steers (net .nodes) s b
-  pub targets-are : net .targets ≡ targetsOf ns t
+-- the words of steering bits and of what the planner shifts to the others are the network's
+pub record Fills (net : Network) (ns steering wants : List ℕ) : Type 0 where
+  pub steering-is : (s b : ℕ) → s ≤ 128 → b < wordWidth → wordBit (getD steering s 0) b ≡ steers (net .nodes) s b
+  pub wants-are : (s b : ℕ) → s ≤ 128 → b < lenOf (nodeAt ns s) → wordBit (getD wants s 0) b ≡ wanted (net .targets) s b
 
 abbrev pub pathBits : Network → ScanPath → ℕ → ℕ → List ℕ
 pathBits net p h c = map bitByte (bitsFrom net (placesOf p) h c)
 
-abbrev pub OperationPut : List ℕ → List ℕ → Tally → List ℕ → ℕ → ℕ → ℕ → ℕ → List ℕ → List ℕ → Type 0
-OperationPut ns steering t way n at h c old new =
-    (net : Network) → Fills net ns steering t → new ≡ writeAt at (pathBits net (scanPath ns (take n way)) h c) old
+abbrev pub OperationPut : List ℕ → List ℕ → List ℕ → List ℕ → ℕ → ℕ → ℕ → ℕ → List ℕ → List ℕ → Type 0
+OperationPut ns steering wants way n at h c old new =
+    (net : Network) → Fills net ns steering wants → new ≡ writeAt at (pathBits net (scanPath ns (take n way)) h c) old
 
 -- ---- its line
 
-abbrev pub LinePut : List ℕ → List ℕ → Tally → List ℕ → ℕ → ℕ → ℕ → ℕ → List ℕ → List ℕ → Type 0
-LinePut ns steering t way n at h c old new =
-    (net : Network) → Fills net ns steering t → new ≡ writeAt at (lineText (pathBits net (scanPath ns (take n way)) h c)) old
+abbrev pub LinePut : List ℕ → List ℕ → List ℕ → List ℕ → ℕ → ℕ → ℕ → ℕ → List ℕ → List ℕ → Type 0
+LinePut ns steering wants way n at h c old new =
+    (net : Network) → Fills net ns steering wants → new ≡ writeAt at (lineText (pathBits net (scanPath ns (take n way)) h c)) old
 
 -- ---- the whole text
 
 -- the bytes of the text of these choices from setting x on
-abbrev pub textLength : Network → List ℕ → ℕ → List ℕ → ℕ
-textLength net mv x cs = length (writePlan (decode net mv x cs))
+abbrev pub textLength : Network → ℕ → List ℕ → ℕ
+textLength net x cs = length (writePlan (decode net x cs))

@@ -1,24 +1,24 @@
 // The planner: a network text to the plan with the fewest operations.
-use crate::rows::build_moves;
-use crate::rows::power_of_2;
-use crate::settings::list_steering;
-use crate::settings::setting_number;
 use crate::writer::Planned;
 use crate::writer::write_plan;
+use layers::plan::Found;
+use layers::plan::clear;
+use layers::plan::find_plan;
 use network::reader::Network;
 use network::reader::Verdict;
 use network::reader::read_network;
 use path::layout::wide;
-use search::marks::Found;
-use search::marks::find_plan;
+use settings::rows::Rows;
+use settings::rows::power_of_2;
+use settings::steering::list_steering;
+use settings::steering::setting_number;
 ghost use mathlib.Core.Path.{_≡_};
+ghost use Prim.Native.Nat.{_≤_};
 ghost use Rattle.model.specs.Calls.{makePlan};
 ghost use Rattle.planner.specs.Writing.{answerOf};
 ghost use Rattle.planner.specs.Call.{Searchable, PlansIn};
 
 pub mod line;
-pub mod rows;
-pub mod settings;
 pub mod writer;
 
 // The most steering bits, and the entries of the search space.
@@ -26,9 +26,10 @@ const MOST_STEERING: usize = 6;
 
 const ENTRIES: usize = 11664;
 
-// The search for the plan of a network: 11, or its text.
-fn plan_network(net: Network, search: &mut [u16], plan: &mut [u8]) -> Planned
+// The search for the plan of a network with targets: 11, or its text.
+fn search_network(net: Network, search: &mut [u16], plan: &mut [u8]) -> Planned
     requires { ⌜ Searchable net (now search) ⌝ }
+    requires { ⌜ 1 ≤ net .tally .«target_count» ⌝ }
     ensures { λ r. ⌜ PlansIn net (now (search .entry)) (now (plan .entry)) r (now (search .exit)) (now (plan .exit)) ⌝ }
 {
     let t = net.tally;
@@ -41,12 +42,24 @@ fn plan_network(net: Network, search: &mut [u16], plan: &mut [u8]) -> Planned
         &mut segments,
         &mut places,
     );
-    let mut moves = [0u16; 48114];
-    build_moves(&net.nodes, t, &segments, &places, k, &mut moves);
     let start = setting_number(&net.bits, &net.known, &segments, &places, k);
-    let mut picked = [0u8; 16];
     let full = wide(power_of_2(t.target_count)) - 1;
-    match find_plan(search, &moves, full, start * 16, &mut picked) {
+    let mut rows: Rows = [0; 8019];
+    let mut picked = [0u8; 16];
+    let found = find_plan(
+        &net.nodes,
+        &net.steering,
+        t,
+        &segments,
+        &places,
+        k,
+        &mut rows,
+        start,
+        full,
+        search,
+        &mut picked,
+    );
+    match found {
         Found::Nothing => Planned::Refused(11, 0),
         Found::Operations(n) => write_plan(
             &net.nodes,
@@ -55,13 +68,26 @@ fn plan_network(net: Network, search: &mut [u16], plan: &mut [u8]) -> Planned
             &segments,
             &places,
             k,
-            &moves,
+            &mut rows,
             start,
             &picked,
             n,
             plan,
         ),
     }
+}
+
+// The plan of a network: without targets it is empty.
+fn plan_network(net: Network, search: &mut [u16], plan: &mut [u8]) -> Planned
+    requires { ⌜ Searchable net (now search) ⌝ }
+    ensures { λ r. ⌜ PlansIn net (now (search .entry)) (now (plan .entry)) r (now (search .exit)) (now (plan .exit)) ⌝ }
+{
+    let t = net.tally;
+    if t.target_count == 0 {
+        clear(search);
+        return Planned::Written(0);
+    }
+    search_network(net, search, plan)
 }
 
 // The planner: the network's refusals, then 10, 12, 11, 13. The plan's text goes to the front of plan.

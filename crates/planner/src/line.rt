@@ -1,5 +1,5 @@
 // The line of one operation in the plan text, from the number of a choice: each steering bit on the path takes the next binary
-// digit of the choice, the highest first, and every other bit what the planner shifts there.
+// digit of the choice, the highest first, and every other bit what the planner shifts there, by a list of words for all lines.
 use network::draft::Tally;
 use path::layout::Nodes;
 use path::layout::Way;
@@ -9,8 +9,9 @@ use path::layout::segment_len;
 use path::layout::wide;
 use path::words::bit_at;
 use plan_text::put;
+use plan_text::put_zeros;
 ghost use mathlib.Core.Path.{_≡_};
-ghost use mathlib.Core.Bool.{cond, _&&_};
+ghost use mathlib.Core.Bool.{cond};
 ghost use Prim.Native.Nat.{_+_, _/_, _%_, _<_, _≤_};
 ghost use lib.Dec.{eqb};
 ghost use lib.ListN.{length, take};
@@ -18,32 +19,35 @@ ghost use Rattle.model.specs.Path.{pathLength};
 ghost use Rattle.model.specs.Tap.{bitByte};
 ghost use Rattle.path.specs.Layout.{wordWidth, wordBit, scanPath};
 ghost use Rattle.network.specs.Draws.{Tame};
-ghost use Rattle.planner.specs.Line.{WantedWord, SegmentPut, HasRoom, OperationPut, LinePut};
+ghost use Rattle.settings.specs.Route.{Blank, TargetsWithin};
+ghost use Rattle.planner.specs.Line.{wantsWith, WantsOf, SegmentPut, HasRoom, OperationPut, LinePut};
 
-// Whether a target, by its segment and its word, is a write target of segment s.
-fn writes_to(segment: u16, word: u16, s: usize) -> bool
-    ensures { λ r. ⌜ r ≡ (eqb word 1 && eqb segment s) ⌝ }
+// The bits of a target, by its segment and its word, become its segment's word in wants if it is a write target.
+fn want_target(segment: u16, word: u16, bits: Word, wants: &mut Words)
+    requires { ⌜ (segment ≤ 128) × (length (now wants) ≡ 129) ⌝ }
+    ensures { λ _. ⌜ now (wants .exit) ≡ wantsWith segment word bits (now (wants .entry)) ⌝ }
 {
     if word != 1 {
-        return false;
+        return;
     }
-    wide(segment) == s
+    wants[wide(segment)] = bits;
 }
 
-// The word that the planner shifts to the bits of segment s that do not steer: its write target's bits, else 0.
-pub fn wanted_word(t: Tally, s: usize) -> Word
-    requires { ⌜ Tame t ⌝ }
-    ensures { λ r. ⌜ WantedWord t s r ⌝ }
+// For each segment the word that the planner shifts to its bits that do not steer: the bits of its first write target, else 0.
+pub fn list_wants(t: Tally, wants: &mut Words)
+    requires { ⌜ (Tame t) × TargetsWithin t × Blank (now wants) ⌝ }
+    ensures { λ _. ⌜ WantsOf t (now (wants .exit)) ⌝ }
 {
-    let count = t.target_count;
-    let mut i: usize = 0;
-    while i < count {
-        if writes_to(t.target_segment[i], t.target_write[i], s) {
-            return t.target_bits[i];
-        }
-        i += 1;
+    let mut i = t.target_count;
+    while 0 < i {
+        i -= 1;
+        want_target(
+            t.target_segment[i],
+            t.target_write[i],
+            t.target_bits[i],
+            wants,
+        );
     }
-    0
 }
 
 // The binary digit of c whose weight is w; 0 for the weight 0.
@@ -88,8 +92,8 @@ fn left_behind(steer: Word, b: usize, h: usize) -> usize
     h
 }
 
-// The bytes of the len bits of a segment, written from a place on; what is left of h.
-fn put_segment(
+// The bytes of the len bits of a segment, written bit by bit from a place on; what is left of h.
+fn put_bits(
     plan: &mut [u8],
     at: usize,
     len: usize,
@@ -111,11 +115,35 @@ fn put_segment(
     left
 }
 
+// The bytes of the len bits of a segment, written from a place on; what is left of h. Most segments have neither steering bits nor a
+// write target, so that all their bytes are `0`.
+fn put_segment(
+    plan: &mut [u8],
+    at: usize,
+    len: usize,
+    steer: Word,
+    want: Word,
+    h: usize,
+    c: usize,
+) -> usize
+    requires { ⌜ (len ≤ wordWidth) × (at + len ≤ length (now plan)) ⌝ }
+    ensures { λ r. ⌜ SegmentPut at len steer want h c (now (plan .entry)) r (now (plan .exit)) ⌝ }
+{
+    if steer != 0 {
+        return put_bits(plan, at, len, steer, want, h, c);
+    }
+    if want != 0 {
+        return put_bits(plan, at, len, steer, want, h, c);
+    }
+    put_zeros(plan, at, len);
+    h
+}
+
 // The bytes of an operation along the path whose n segments way holds, written from a place on; the place behind them.
 fn put_operation<'a>(
     nodes: &'a Nodes,
     steering: &'a Words,
-    t: Tally,
+    wants: &'a Words,
     way: &'a Way,
     n: usize,
     plan: &mut [u8],
@@ -123,9 +151,9 @@ fn put_operation<'a>(
     h: usize,
     c: usize,
 ) -> usize
-    requires { ⌜ (Tame t) × HasRoom (now nodes) (now way) n at (now plan) ⌝ }
+    requires { ⌜ HasRoom (now nodes) (now way) n at (now plan) ⌝ }
     ensures { λ r. ⌜ r ≡ at + pathLength (scanPath (now (nodes .entry)) (take n (now (way .entry)))) ⌝ }
-    ensures { λ _. ⌜ OperationPut (now (nodes .entry)) (now (steering .entry)) t (now (way .entry)) n at h c (now (plan .entry)) (now (plan .exit)) ⌝ }
+    ensures { λ _. ⌜ OperationPut (now (nodes .entry)) (now (steering .entry)) (now (wants .entry)) (now (way .entry)) n at h c (now (plan .entry)) (now (plan .exit)) ⌝ }
 {
     let mut place = at;
     let mut left = h;
@@ -133,8 +161,7 @@ fn put_operation<'a>(
     while i < n {
         let s = wide(way[i]);
         let len = segment_len(nodes, s);
-        let want = wanted_word(t, s);
-        left = put_segment(plan, place, len, steering[s], want, left, c);
+        left = put_segment(plan, place, len, steering[s], wants[s], left, c);
         place += len;
         i += 1;
     }
@@ -145,7 +172,7 @@ fn put_operation<'a>(
 pub fn put_line<'a>(
     nodes: &'a Nodes,
     steering: &'a Words,
-    t: Tally,
+    wants: &'a Words,
     way: &'a Way,
     n: usize,
     plan: &mut [u8],
@@ -153,11 +180,11 @@ pub fn put_line<'a>(
     h: usize,
     c: usize,
 ) -> usize
-    requires { ⌜ (Tame t) × HasRoom (now nodes) (now way) n (at + 5) (now plan) ⌝ }
+    requires { ⌜ HasRoom (now nodes) (now way) n (at + 5) (now plan) ⌝ }
     ensures { λ r. ⌜ r ≡ at + (5 + pathLength (scanPath (now (nodes .entry)) (take n (now (way .entry))))) ⌝ }
-    ensures { λ _. ⌜ LinePut (now (nodes .entry)) (now (steering .entry)) t (now (way .entry)) n at h c (now (plan .entry)) (now (plan .exit)) ⌝ }
+    ensures { λ _. ⌜ LinePut (now (nodes .entry)) (now (steering .entry)) (now (wants .entry)) (now (way .entry)) n at h c (now (plan .entry)) (now (plan .exit)) ⌝ }
 {
     let start = put(plan, at, b"csu\t");
-    let end = put_operation(nodes, steering, t, way, n, plan, start, h, c);
+    let end = put_operation(nodes, steering, wants, way, n, plan, start, h, c);
     put(plan, end, b"\n")
 }

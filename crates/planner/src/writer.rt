@@ -1,15 +1,24 @@
 // The text of a plan from the choices of the search: its length, then its lines, each along the path of its setting.
+use crate::line::list_wants;
 use crate::line::put_line;
-use crate::rows::walk_setting;
 use network::draft::Tally;
 use path::layout::Nodes;
+use path::layout::Way;
 use path::layout::Words;
-use path::places::path_length;
+use path::layout::wide;
 use path::walk::Walked;
-use search::moves::choices;
-use search::moves::leads_to;
+use settings::route::walk_setting;
+use settings::rows::COUNT;
+use settings::rows::LENGTH;
+use settings::rows::Lands;
+use settings::rows::Rows;
+use settings::rows::know_row;
+use settings::rows::list_lands;
+use settings::rows::number;
 ghost use mathlib.Core.Path.{_≡_};
-ghost use Rattle.planner.specs.Writing.{Countable, Counts, Writable, Writes, HasText, GivesText};
+ghost use Prim.Native.Nat.{_<_};
+ghost use Rattle.settings.specs.Rows.{rowNumber, RowsRight, Landing};
+ghost use Rattle.planner.specs.Writing.{LandIn, Countable, Counts, Writable, Writes, GivesText};
 
 // The count of bytes written, or a refusal's number and place.
 pub enum Planned {
@@ -24,91 +33,81 @@ fn as_index(c: u8) -> usize
     c as usize
 }
 
-// The bytes of the text of the first n of the choices in picked, from setting start on.
-pub fn text_length<'a>(
-    nodes: &'a Nodes,
-    t: Tally,
-    segments: &'a [usize; 6],
-    places: &'a [usize; 6],
-    k: usize,
-    moves: &'a [u16],
-    start: usize,
-    picked: &'a [u8; 16],
-    n: usize,
-) -> usize
-    requires { ⌜ Countable (now nodes) t (now segments) (now places) k (now moves) start (now picked) n ⌝ }
-    ensures { λ r. ⌜ Counts (now (nodes .entry)) t (now (segments .entry)) (now (places .entry)) k (now (moves .entry)) start (now (picked .entry)) n r ⌝ }
+// The setting that choice c leads to from setting x.
+fn land_of(rows: &Rows, x: usize, c: usize) -> usize
+    requires { ⌜ (x < 729) × Landing (now rows) x ⌝ }
+    requires { ⌜ c < rowNumber (now rows) x 1 ⌝ }
+    ensures { λ r. ⌜ LandIn (now (rows .entry)) x c r ⌝ }
 {
-    let mut bits = [0; 129];
-    let mut known = [0; 129];
-    let mut way = [0u16; 128];
-    let mut sum: usize = 0;
-    let mut x = start;
-    let mut i: usize = 0;
-    while i < n {
-        let walked = walk_setting(
-            nodes,
-            t,
-            segments,
-            places,
-            k,
-            x,
-            &mut bits,
-            &mut known,
-            &mut way,
-        );
-        let Walked::Path(m) = walked else {
-            return sum;
-        };
-        sum += 5 + path_length(nodes, &way, m);
-        x = leads_to(moves, x, as_index(picked[i]));
-        i += 1;
-    }
-    sum
+    let mut lands: Lands = [0; 64];
+    list_lands(rows, x, &mut lands);
+    wide(lands[c])
 }
 
-// The text itself, at the front of a buffer with room for it.
-pub fn write_text<'a>(
+// The bytes of the text of the first n of the choices in picked, from setting start on.
+fn text_length<'a>(
     nodes: &'a Nodes,
     steering: &'a Words,
     t: Tally,
     segments: &'a [usize; 6],
     places: &'a [usize; 6],
     k: usize,
-    moves: &'a [u16],
+    rows: &mut Rows,
+    start: usize,
+    picked: &'a [u8; 16],
+    n: usize,
+) -> usize
+    requires { ⌜ Countable (now nodes) (now steering) t (now segments) (now places) k start (now picked) n ⌝ }
+    requires { ⌜ RowsRight (now nodes) (now steering) t (now segments) (now places) k (now rows) ⌝ }
+    ensures { λ _. ⌜ RowsRight (now (nodes .entry)) (now (steering .entry)) t (now (segments .entry)) (now (places .entry)) k (now (rows .exit)) ⌝ }
+    ensures { λ r. ⌜ Counts (now (nodes .entry)) (now (steering .entry)) t (now (segments .entry)) (now (places .entry)) k start (now (picked .entry)) n r ⌝ }
+{
+    let mut sum: usize = 0;
+    let mut x = start;
+    let mut i: usize = 0;
+    while i < n {
+        know_row(nodes, steering, t, segments, places, k, x, rows);
+        sum += 5 + number(rows, x, LENGTH);
+        x = land_of(rows, x, as_index(picked[i]));
+        i += 1;
+    }
+    sum
+}
+
+// The text itself, at the front of a buffer with room for it.
+fn write_text<'a>(
+    nodes: &'a Nodes,
+    steering: &'a Words,
+    t: Tally,
+    segments: &'a [usize; 6],
+    places: &'a [usize; 6],
+    k: usize,
+    rows: &mut Rows,
     start: usize,
     picked: &'a [u8; 16],
     n: usize,
     plan: &mut [u8],
 )
-    requires { ⌜ Writable (now nodes) (now steering) t (now segments) (now places) k (now moves) start (now picked) n (now plan) ⌝ }
-    ensures { λ _. ⌜ Writes (now (nodes .entry)) (now (steering .entry)) t (now (segments .entry)) (now (places .entry)) k (now (moves .entry)) start (now (picked .entry)) n (now (plan .entry)) (now (plan .exit)) ⌝ }
+    requires { ⌜ Writable (now nodes) (now steering) t (now segments) (now places) k start (now picked) n (now plan) ⌝ }
+    requires { ⌜ RowsRight (now nodes) (now steering) t (now segments) (now places) k (now rows) ⌝ }
+    ensures { λ _. ⌜ Writes (now (nodes .entry)) (now (steering .entry)) t (now (segments .entry)) (now (places .entry)) k start (now (picked .entry)) n (now (plan .entry)) (now (plan .exit)) ⌝ }
 {
-    let mut bits = [0; 129];
-    let mut known = [0; 129];
-    let mut way = [0u16; 128];
+    let mut wants: Words = [0; 129];
+    list_wants(t, &mut wants);
+    let mut way: Way = [0; 128];
     let mut at: usize = 0;
     let mut x = start;
     let mut i: usize = 0;
     while i < n {
-        let walked = walk_setting(
-            nodes,
-            t,
-            segments,
-            places,
-            k,
-            x,
-            &mut bits,
-            &mut known,
-            &mut way,
-        );
+        let walked = walk_setting(nodes, steering, t, segments, places, k, x, &mut way);
         let Walked::Path(m) = walked else {
             return;
         };
+        know_row(nodes, steering, t, segments, places, k, x, rows);
         let c = as_index(picked[i]);
-        let h = choices(moves, x);
-        at = put_line(nodes, steering, t, &way, m, plan, at, h, c);
-        x = leads_to(moves, x, c);
+        let h = number(rows, x, COUNT);
+        at = put_line(nodes, steering, &wants, &way, m, plan, at, h, c);
+        x = land_of(rows, x, c);
         i += 1;
     }
 }
@@ -121,16 +120,28 @@ pub fn write_plan<'a>(
     segments: &'a [usize; 6],
     places: &'a [usize; 6],
     k: usize,
-    moves: &'a [u16],
+    rows: &mut Rows,
     start: usize,
     picked: &'a [u8; 16],
     n: usize,
     plan: &mut [u8],
 ) -> Planned
-    requires { ⌜ HasText (now nodes) (now steering) t (now segments) (now places) k (now moves) start (now picked) n ⌝ }
-    ensures { λ r. ⌜ GivesText (now (nodes .entry)) (now (steering .entry)) t (now (segments .entry)) (now (places .entry)) k (now (moves .entry)) start (now (picked .entry)) n (now (plan .entry)) r (now (plan .exit)) ⌝ }
+    requires { ⌜ Countable (now nodes) (now steering) t (now segments) (now places) k start (now picked) n ⌝ }
+    requires { ⌜ RowsRight (now nodes) (now steering) t (now segments) (now places) k (now rows) ⌝ }
+    ensures { λ r. ⌜ GivesText (now (nodes .entry)) (now (steering .entry)) t (now (segments .entry)) (now (places .entry)) k start (now (picked .entry)) n (now (plan .entry)) r (now (plan .exit)) ⌝ }
 {
-    let needed = text_length(nodes, t, segments, places, k, moves, start, picked, n);
+    let needed = text_length(
+        nodes,
+        steering,
+        t,
+        segments,
+        places,
+        k,
+        rows,
+        start,
+        picked,
+        n,
+    );
     if plan.len() < needed {
         return Planned::Refused(13, needed);
     }
@@ -141,7 +152,7 @@ pub fn write_plan<'a>(
         segments,
         places,
         k,
-        moves,
+        rows,
         start,
         picked,
         n,

@@ -1,7 +1,6 @@
 -- The lines of a plan text of good form, for a loop over its places.
 -- Assumes nothing.
 use mathlib.Core.Path.{_≡_, ap, _∙_}
-use mathlib.Core.Bool.{Bool}
 use mathlib.Core.List.{List, _∷_, map}
 use Prim.Native.Nat.{ℕ, _+_, _≤_, _<_}
 use native.Mathlib.Omega.{arith}
@@ -11,7 +10,7 @@ use Rattle.model.specs.Plan.{Plan}
 use Rattle.model.specs.PlanText.{writePlan}
 use Rattle.model.specs.Tap.{bitByte}
 use Rattle.model.proofs.PlanTexts.{text-of}
-use Rattle.tap.specs.Clocks.{HasForm}
+use Rattle.plan_text.specs.Form.{HasForm}
 use Rattle.plan_text.specs.Lines.{bitRun}
 use Rattle.plan_text.proofs.Lines.{line-room, line-bits, line-next, line-more}
 

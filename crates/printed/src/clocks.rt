@@ -2,7 +2,7 @@
 use tap::Written;
 ghost use Prim.Native.Nat.{_≤_};
 ghost use lib.ListN.{length};
-ghost use Rattle.tap.specs.Clocks.{HasForm};
+ghost use Rattle.plan_text.specs.Form.{HasForm};
 
 // The bytes of one operation, from a place to another in both rows.
 fn show_operation(tms: &[u8], tdi: &[u8], at: usize, next: usize)

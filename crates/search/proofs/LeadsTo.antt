@@ -18,9 +18,9 @@ use Rattle.model.specs.Plan.{wanted}
 use Rattle.model.proofs.Lists.{eqb-is, true-false, or-left, or-right, drop-map}
 use Rattle.model.proofs.Walking.{Falls}
 use Rattle.search.specs.Moves.{landNum}
-use Rattle.search.specs.Settings.{Look, settingOf, loaded}
+use Rattle.search.specs.Settings.{Distinct, distinct-nil, distinct-cons, Look, settingOf, loaded}
 use Rattle.search.specs.Choices.{placesOf}
-use Rattle.search.proofs.Steering.{Distinct, distinct-nil, distinct-cons, distinct-append}
+use Rattle.search.proofs.Steering.{distinct-append}
 use Rattle.search.proofs.SettingNumbers.{same-place, place-same, place-other, setting-same}
 use Rattle.search.proofs.Choices.{steeringCount, bitsAt}
 use Rattle.search.proofs.Order.{indexOf, consIf, orderAt, length-orderAt}

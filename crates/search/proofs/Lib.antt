@@ -1,8 +1,6 @@
--- Laws of the search by numbers, of the two tables, and of the settings by number.
+-- Laws of the search by numbers, of the settings by number, and of the moves of a network.
 pub mod Least
-pub mod Rounds
-pub mod MarkTable
-pub mod AlongMarks
+pub mod Forward
 pub mod Landing
 pub mod Steering
 pub mod SettingNumbers
@@ -11,7 +9,6 @@ pub mod Choices
 pub mod Order
 pub mod LeadsTo
 pub mod TargetMasks
-pub mod NetworkMoves
-pub mod BuildMoves
+pub mod MoveLaws
 pub mod SameSearch
 pub mod Decoded

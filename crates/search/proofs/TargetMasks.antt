@@ -15,7 +15,7 @@ use Rattle.model.specs.NetworkText.{targetSegment}
 use Rattle.model.specs.Path.{ScanPath, bitValue, on}
 use Rattle.model.specs.Plan.{OnSome}
 use Rattle.model.proofs.Lists.{true-false, and-parts, and-both, or-right}
-use Rattle.search.specs.NetworkMoves.{maskOf, onPath, allOf}
+use Rattle.search.specs.Moves.{maskOf, onPath, allOf}
 
 bit-small : (b : Bool) → bitValue b ≤ 1
 bit-small true = omega arith

@@ -1,62 +1,94 @@
--- The table of moves: for each of 729 settings a row of 66 numbers. Number 0 of a row is the count of choices, 0 where the
--- setting is not valid; number 1 has a binary digit for each target on the path; from number 2 on stands the setting that each
--- choice leads to. A state is setting * 16 + targets reached.
+-- The moves of a network: in each setting the count of choices, the targets on the path, and the setting that each choice leads
+-- to; the search by numbers over them; the plan that a list of choices makes. A state is setting * 16 + targets reached.
 -- Assumes nothing.
 use mathlib.Core.Path.{_≡_}
-use mathlib.Core.Bool.{cond, _&&_}
+use mathlib.Core.Bool.{Bool, cond, _&&_}
 use mathlib.Core.List.{List, [], _∷_}
-use Prim.Native.Nat.{ℕ, _≤_, _<_, _+_, _*_, _/_, _%_, _-_, _^_}
+use Prim.Native.Nat.{ℕ, _<_, _+_, _*_, _/_, _%_, _-_, _^_}
 use lib.Dec.{eqb, ltb}
-use lib.ListN.{length, getD}
+use lib.ListN.{length}
 use lib.Bits.{bitOr}
+use Rattle.model.specs.Network.{Target, Network, steeringBits}
+use Rattle.model.specs.NetworkText.{targetSegment}
+use Rattle.model.specs.Path.{ScanPath, Walk, path, stop, bitValue, pathOf, on}
+use Rattle.model.specs.Plan.{Plan}
 use Rattle.search.specs.Search.{Sys}
+use Rattle.search.specs.Settings.{walkAt, order, choiceOf, settingAfter}
 
-abbrev pub count : List ℕ → ℕ → ℕ
-count mv x = getD mv (x * 66) 0
+-- ---- targets: a binary digit for each, the first target lowest
 
-abbrev pub gain : List ℕ → ℕ → ℕ
-gain mv x = getD mv (x * 66 + 1) 0
+unfoldable pub maskOf : (Target → Bool) → List Target → ℕ
+maskOf f [] = 0
+maskOf f (t ∷ ts) = bitValue (f t) + 2 * maskOf f ts
 
-abbrev pub land : List ℕ → ℕ → ℕ → ℕ
-land mv x c = getD mv (x * 66 + 2 + c) 0
+abbrev pub onPath : ScanPath → Target → Bool
+onPath p t = on p (targetSegment t)
 
--- a table whose numbers are within their bounds
-pub record MoveTable (mv : List ℕ) : Type 0 where
-  pub long : length mv ≡ 48114
-  pub counts : (x : ℕ) → x < 729 → count mv x ≤ 64
-  pub gains : (x : ℕ) → x < 729 → gain mv x < 16
-  pub lands : (x c : ℕ) → x < 729 → c < count mv x → land mv x c < 729
+-- all targets
+abbrev pub allOf : List Target → ℕ
+allOf ts = 2 ^ length ts - 1
 
--- ---- the states
+-- ---- the moves
 
--- the targets reached after an operation in setting x, those reached before being m
-abbrev pub reached : List ℕ → ℕ → ℕ → ℕ
-reached mv x m = bitOr m (gain mv x)
+-- the choices that a walk offers: one for each value of the steering bits on its path, none where it stops
+abbrev pub choicesOn : Network → Walk → ℕ
+choicesOn net (path p) = 2 ^ length (order (steeringBits (net .nodes)) p)
+choicesOn net (stop k) = 0
 
--- the state after choice c in setting x, the targets reached then being got
-abbrev pub goes : List ℕ → ℕ → ℕ → ℕ → ℕ
-goes mv x got c = land mv x c * 16 + got
+-- the targets on its path
+abbrev pub targetsOn : Network → Walk → ℕ
+targetsOn net (path p) = maskOf (onPath p) (net .targets)
+targetsOn net (stop k) = 0
 
--- full is the number of all targets reached
-abbrev pub sysOf : List ℕ → ℕ → Sys
-sysOf mv full = record {
-  choices = λ s. count mv (s / 16);
-  to = λ s c. goes mv (s / 16) (reached mv (s / 16) (s % 16)) c;
-  goal = λ s. ltb 0 (count mv (s / 16)) && eqb (s % 16) full;
-}
+-- the count of choices in setting x
+unfoldable pub count : Network → ℕ → ℕ
+count net x = choicesOn net (walkAt net x)
 
--- ---- a row
+-- the targets on the path in setting x
+unfoldable pub gain : Network → ℕ → ℕ
+gain net x = targetsOn net (walkAt net x)
 
--- the setting that choice c leads to: each of the steering places takes the next binary digit of c, the highest first, and a 1
--- adds the place's power of 3 to the number in which their digits are 0
+-- the setting that choice c leads to from setting x
+unfoldable pub land : Network → ℕ → ℕ → ℕ
+land net x c = settingAfter net (pathOf (walkAt net x)) x c
+
+-- that setting by the steering bits on the path: each of them takes the next binary digit of c, the highest first, and a 1 adds
+-- the bit's power of 3 to the number in which their digits are 0
 unfoldable pub landNum : List ℕ → ℕ → ℕ → ℕ
 landNum [] c n = n
 landNum (j ∷ js) c n = cond (ltb c (2 ^ length js)) (landNum js c n) (landNum js (c - 2 ^ length js) (n + 3 ^ j))
 
--- row x with its first k landings; numbers outside the row are as they were
-pub record Row (old : List ℕ) (x width mask : ℕ) (order : List ℕ) (base k : ℕ) (mv : List ℕ) : Type 0 where
-  pub count-is : count mv x ≡ width
-  pub gain-is : gain mv x ≡ mask
-  pub lands-are : (c : ℕ) → c < k → land mv x c ≡ landNum order c base
-  pub below : (i : ℕ) → i < x * 66 → getD mv i 0 ≡ getD old i 0
-  pub above : (i : ℕ) → x * 66 + 66 ≤ i → getD mv i 0 ≡ getD old i 0
+-- ---- the states
+
+-- the targets reached after an operation in setting x, those reached before being m
+abbrev pub reached : Network → ℕ → ℕ → ℕ
+reached net x m = bitOr m (gain net x)
+
+-- the state after choice c in setting x, the targets reached then being got
+abbrev pub goes : Network → ℕ → ℕ → ℕ → ℕ
+goes net x got c = land net x c * 16 + got
+
+abbrev pub sysOf : Network → Sys
+sysOf net = record {
+  choices = λ s. count net (s / 16);
+  to = λ s c. goes net (s / 16) (reached net (s / 16) (s % 16)) c;
+  goal = λ s. ltb 0 (count net (s / 16)) && eqb (s % 16) (allOf (net .targets));
+}
+
+-- ---- a plan by its choices
+
+-- the plan that these choices make from setting x
+unfoldable pub decode : Network → ℕ → List ℕ → Plan
+decode net x [] = []
+decode net x (c ∷ cs) = choiceOf net (pathOf (walkAt net x)) c ∷ decode net (land net x c) cs
+
+-- choice c can be made in setting x
+pub record StepOf (net : Network) (x c : ℕ) : Type 0 where
+  pub route : ScanPath
+  pub walks : walkAt net x ≡ path route
+  pub chosen : c < count net x
+
+-- these choices can be made one after the other from setting x on
+abbrev pub Follows : Network → ℕ → List ℕ → Type 0
+Follows net x [] = Unit {0}
+Follows net x (c ∷ cs) = StepOf net x c × Follows net (land net x c) cs

@@ -1,13 +1,10 @@
 -- The bytes of an operation's clocks, and the clock writer's answer.
 -- Assumes nothing.
-use mathlib.Core.Path.{_≡_}
 use mathlib.Core.List.{_++_}
 use Prim.Native.Nat.{ℕ, zero, suc}
 use lib.ListN.{replicate}
 use Rattle.model.specs.Result.{Result, ok, refused}
 use Rattle.model.specs.Text.{Bytes, bytes}
-use Rattle.model.specs.Plan.{Plan}
-use Rattle.model.specs.PlanText.{readPlan}
 use Rattle.tap.specs.declared.Written.{Written}
 use Rattle.tap.specs.declared.Written.the-variants.{Clocks, Refused}
 
@@ -19,10 +16,6 @@ tmsBytes (suc n) = bytes "100" ++ (replicate n 48 ++ bytes "110")
 -- "TDI is 0 outside Shift-DR."
 abbrev pub tdiBytes : Bytes → Bytes
 tdiBytes bits = bytes "000" ++ (bits ++ bytes "00")
-
--- a plan text of good form
-abbrev pub HasForm : Bytes → Type 0
-HasForm t = (plan : Plan) × (readPlan t ≡ ok plan)
 
 -- number and values of each case
 abbrev pub answerOf : Written → Result ℕ

@@ -2,11 +2,12 @@
 ghost use mathlib.Core.Path.{_≡_};
 ghost use mathlib.Core.List.{map};
 ghost use Prim.Native.Nat.{_+_, _≤_, _<_};
-ghost use lib.ListN.{length, replicate};
+ghost use lib.ListN.{length};
 ghost use Rattle.model.specs.Calls.{clocksOf, rowOf, written, writeClocks};
+ghost use Rattle.plan_text.specs.Form.{HasForm};
 ghost use Rattle.plan_text.specs.Writing.{writeAt};
 ghost use Rattle.tap.specs.Machine.{columnOf, isOne, number, stateAt, nextNumber, stateAfter};
-ghost use Rattle.tap.specs.Clocks.{tmsBytes, tdiBytes, HasForm, answerOf};
+ghost use Rattle.tap.specs.Clocks.{tmsBytes, tdiBytes, answerOf};
 use plan_text::Form;
 
 // The next state for TMS 0 and for TMS 1 of each state: 0 Test-Logic-Reset, 1 Run-Test/Idle, 2 Select-DR, 3 Capture-DR,
@@ -71,20 +72,6 @@ pub fn run(state: u8, tms: &[u8]) -> u8
     s
 }
 
-// As many `0` written from a place on; the place behind them.
-fn put_zeros(buf: &mut [u8], at: usize, n: usize) -> usize
-    requires { ⌜ at + n ≤ length (now buf) ⌝ }
-    ensures { λ r. ⌜ r ≡ at + n ⌝ }
-    ensures { λ r. ⌜ now (buf .exit) ≡ writeAt at (replicate n 48) (now (buf .entry)) ⌝ }
-{
-    let mut i: usize = 0;
-    while i < n {
-        buf[at + i] = b'0';
-        i += 1;
-    }
-    at + n
-}
-
 // The TMS of an operation of n bits, written from a place on; the place behind it.
 fn write_tms(tms: &mut [u8], at: usize, n: usize) -> usize
     requires { ⌜ at + (5 + n) ≤ length (now tms) ⌝ }
@@ -95,7 +82,7 @@ fn write_tms(tms: &mut [u8], at: usize, n: usize) -> usize
         return plan_text::put(tms, at, b"10110");
     }
     let shift = plan_text::put(tms, at, b"100");
-    let last = put_zeros(tms, shift, n - 1);
+    let last = plan_text::put_zeros(tms, shift, n - 1);
     plan_text::put(tms, last, b"110")
 }
 

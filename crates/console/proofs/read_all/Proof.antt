@@ -9,7 +9,7 @@ use lib.ListN.{length}
 use lib.Seq.{length-take-le}
 use Rattle.io.specs.Counts.{Counts}
 use Rattle.console.specs.declared.Step.{Step}
-use Rattle.console.specs.declared.Step.the-variants.{Bytes, Failed}
+use Rattle.console.specs.declared.Step.the-variants.{Bytes}
 use Rattle.console.specs.Reading.{Fits}
 use Rattle.console.proofs.read_all.Statement.{statement}
 use Rattle.console.proofs.read_all.Tie as tie

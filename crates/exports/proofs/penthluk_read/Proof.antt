@@ -1,31 +1,25 @@
+-- `exports::penthluk_read` meets its contract.
+-- Assumes nothing.
 use Rattle.exports.proofs.Answers.{accepted-numbers, refused-numbers}
 use borrow.Author.Needs.{needs}
 use Rattle.exports.proofs.penthluk_read.Statement.{statement}
 use Rattle.exports.proofs.penthluk_read.Tie as tie
-use Rattle.exports.proofs.penthluk_read.Reads as reads
-use Rattle.exports.proofs.penthluk_read.Lts as lts
-use Rattle.network.proofs.reader.read_network.Reads as read-network-reads
 
--- src/lib.rt:13:9
 read-network-requires : tie.Need-read-network-requires
 read-network-requires c κs = search needs
 
--- src/lib.rt:18:13
 enum-told : tie.Need-enum-told
 enum-told c = search needs
 
--- src/lib.rt:20:26
 enum-known-verdict : tie.Need-enum-known-verdict
 enum-known-verdict c = search needs
 
--- src/lib.rt:9:1
 returns : tie.Need-returns
 returns c =
     let at-read-network = c .before .before .before .before in
     let at-start = at-read-network .before .before in
     accepted-numbers (at-start .args .text .now) (at-read-network .read-network .result) (at-read-network .read-network .ensures) (c .before .enum-told .given .1)
 
--- src/lib.rt:9:1
 returns-2 : tie.Need-returns-2
 returns-2 c =
     let at-verdict = c .before .before in

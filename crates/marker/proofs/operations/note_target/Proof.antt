@@ -1,7 +1,6 @@
 -- `marker::operations::note_target` meets its contract.
 -- Assumes nothing.
 use mathlib.Core.Path.{sym, ap, _∙_}
-use native.Mathlib.Omega.{arith}
 use Rattle.path.specs.Answers.{placed}
 use Rattle.marker.proofs.Noting.{noted-before, noted-off, noted-here}
 use borrow.Author.Needs.{needs}

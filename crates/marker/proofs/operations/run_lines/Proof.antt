@@ -1,7 +1,7 @@
 -- `marker::operations::run_lines` meets its contract. The invariant is the law `Going`; the measure is what is left of the text.
 -- Assumes nothing.
 use mathlib.Core.Path.{_≡_}
-use Prim.Native.Nat.{ℕ, _-_}
+use Prim.Native.Nat.{_-_}
 use native.Mathlib.Omega.{arith}
 use lib.ListN.{length, take}
 use Rattle.model.specs.Result.{ok}

@@ -1,133 +1,141 @@
+-- `network::add::add_hold` meets its contract: a `hold` line is refused with 4 or 6 in this order as the model refuses it,
+-- and otherwise the arrays draw the draft with this hold more.
+-- Assumes nothing.
+use mathlib.Core.Bool.{true}
+use Rattle.network.specs.Draws.{Draws}
+use Rattle.path.specs.Layout.{nodeAt}
+use lib.ListN.{length}
+use mathlib.Core.List.{List, []}
+use Prim.Native.Nat.{ℕ, _≤_}
 use Rattle.network.proofs.AddingHolds.{bits-in-length, unfit-none, unfit-length, fit, hold-4, hold-6, held-6, hold-added, with-hold}
 use Rattle.network.proofs.BadAddresses.{node-in}
 use Rattle.network.proofs.Drawing.{agrees-refused, agrees-ok, drawn-out, drawn-len}
 use Rattle.network.specs.Line.{bitsIn}
 use Rattle.model.specs.Network.{lenOf}
-use Rattle.model.specs.NetworkText.{withHold}
-use Rattle.model.specs.Text.{trit}
+use Rattle.model.specs.NetworkText.{Draft, isSome, fitsBits, withHold}
+use Rattle.model.specs.Text.{trit, bitsFrom}
 use borrow.Author.Tests.{not-true, not-false, eq-eqb, ne-eqb}
 use native.Mathlib.Omega.{arith}
-use mathlib.Core.Path.{refl, sym, ap, _∙_}
+use mathlib.Core.Path.{_≡_, refl, sym, ap, _∙_}
 use borrow.Author.Needs.{needs}
 use Rattle.network.proofs.add.add_hold.Statement.{statement}
 use Rattle.network.proofs.add.add_hold.Tie as tie
-use Rattle.network.proofs.add.add_hold.Reads as reads
-use Rattle.network.proofs.add.add_hold.Lts as lts
-use Rattle.network.proofs.add.len_of.Reads as len-of-reads
-use Rattle.path.proofs.words.words_of.Reads as words-of-reads
 
--- src/add.rt:115:9
+abbrev start : tie.Else2 → tie.Start
+start c = c .before .before .before .before .before
+
+-- the segment is one of the nodes
+there : (c : tie.Else2) → (1 ≤ start c .args .s) × (start c .args .s ≤ start c .args .t .count)
+there c = c .before .len-of .ensures .1 (let ne = c .if2 .left in omega arith)
+
+in-range : (c : tie.Else2) → start c .args .s ≤ 128
+in-range c = omega (arith, there c .1, start c .pre .0 .nodes-fit)
+
+-- BITS are as many as the segment has
+its-length : (c : tie.Else3) → length (start (c .before) .args .f .now) ≡ lenOf (nodeAt (start (c .before) .args .nodes .now) (start (c .before) .args .s))
+its-length c =
+    let r = there (c .before) in
+    c .if3 .left ∙ c .before .before .len-of .ensures .0 ∙ ap lenOf (node-in _ _ _ (r .0) (r .1))
+
+-- so they fit it in the draft
+fits : (c : tie.Else3) {bits known steering held : List ℕ} {d : Draft} → isSome (bitsFrom trit [] (start (c .before) .args .f .now)) ≡ true
+    → Draws (start (c .before) .args .nodes .now) bits known steering held (start (c .before) .args .t) d (start (c .before) .args .n)
+    → fitsBits (d .nodes) (start (c .before) .args .s) (bitsIn trit (start (c .before) .args .f .now)) ≡ true
+fits c form w =
+    let at-len-of = c .before .before in
+    let a = start (c .before) .args in
+    let len = drawn-len _ _ _ _ _ _ _ _ w (at-len-of .len-of .result) (a .s) (at-len-of .len-of .ensures .0) in
+    let many = bits-in-length trit (a .f .now) form ∙ c .if3 .left ∙ sym len in
+    fit _ _ _ _ _ _ _ _ w (a .s) (bitsIn trit (a .f .now)) (λ z. c .before .if2 .left (sym len ∙ z)) many
+
 returns : tie.Need-returns
 returns c =
-    let at-start = c .before .before .before in
-    λ steering d form w. agrees-refused _ _ _ 4 (at-start .args .n) (hold-4 d (at-start .args .n) (at-start .args .s) (bitsIn trit (at-start .args .f .now)) (drawn-out (at-start .args .nodes .now) (at-start .args .bits .now) (at-start .args .known .now) steering (at-start .args .held .now) (at-start .args .t) d (at-start .args .n) w ∙ not-true _ (c .if1 .taken))) refl
+    let a = c .before .before .before .args in
+    λ steering d form w.
+    let out = drawn-out _ _ _ _ _ _ _ _ w ∙ not-true _ (c .if1 .taken) in
+    agrees-refused _ _ _ 4 (a .n) (hold-4 d (a .n) (a .s) (bitsIn trit (a .f .now)) out) refl
 
--- src/add.rt:117:9
 len-of-requires : tie.Need-len-of-requires
 len-of-requires c κs = search needs
 
--- src/add.rt:119:9
 returns-2 : tie.Need-returns-2
 returns-2 c =
-    let at-if1 = c .before .before in
-    let at-start = at-if1 .before .before .before in
-    λ steering d form w. agrees-refused _ _ _ 6 (at-start .args .n) (hold-6 d (at-start .args .n) (at-start .args .s) (bitsIn trit (at-start .args .f .now)) (drawn-out (at-start .args .nodes .now) (at-start .args .bits .now) (at-start .args .known .now) steering (at-start .args .held .now) (at-start .args .t) d (at-start .args .n) w ∙ not-false _ (at-if1 .if1 .left)) (unfit-none (at-start .args .nodes .now) (at-start .args .bits .now) (at-start .args .known .now) steering (at-start .args .held .now) (at-start .args .t) d (at-start .args .n) w (at-start .args .s) (bitsIn trit (at-start .args .f .now)) ((drawn-len (at-start .args .nodes .now) (at-start .args .bits .now) (at-start .args .known .now) steering (at-start .args .held .now) (at-start .args .t) d (at-start .args .n) w (c .before .len-of .result) (at-start .args .s) (c .before .len-of .ensures .0)) ∙ c .if2 .taken))) refl
+    let at-len-of = c .before in
+    let at-if1 = at-len-of .before in
+    let a = at-if1 .before .before .before .args in
+    let bs = bitsIn trit (a .f .now) in
+    λ steering d form w.
+    let out = drawn-out _ _ _ _ _ _ _ _ w ∙ not-false _ (at-if1 .if1 .left) in
+    let len = drawn-len _ _ _ _ _ _ _ _ w (at-len-of .len-of .result) (a .s) (at-len-of .len-of .ensures .0) in
+    agrees-refused _ _ _ 6 (a .n) (hold-6 d (a .n) (a .s) bs out (unfit-none _ _ _ _ _ _ _ _ w (a .s) bs (len ∙ c .if2 .taken))) refl
 
--- src/add.rt:122:9
 returns-3 : tie.Need-returns-3
 returns-3 c =
     let at-len-of = c .before .before in
     let at-if1 = at-len-of .before in
-    let at-start = at-if1 .before .before .before in
-    λ steering d form w. agrees-refused _ _ _ 6 (at-start .args .n) (hold-6 d (at-start .args .n) (at-start .args .s) (bitsIn trit (at-start .args .f .now)) (drawn-out (at-start .args .nodes .now) (at-start .args .bits .now) (at-start .args .known .now) steering (at-start .args .held .now) (at-start .args .t) d (at-start .args .n) w ∙ not-false _ (at-if1 .if1 .left)) (unfit-length (at-start .args .nodes .now) (at-start .args .bits .now) (at-start .args .known .now) steering (at-start .args .held .now) (at-start .args .t) d (at-start .args .n) w (at-start .args .s) (bitsIn trit (at-start .args .f .now)) (λ z. c .if3 .taken (sym (bits-in-length trit (at-start .args .f .now) form) ∙ z ∙ (drawn-len (at-start .args .nodes .now) (at-start .args .bits .now) (at-start .args .known .now) steering (at-start .args .held .now) (at-start .args .t) d (at-start .args .n) w (at-len-of .len-of .result) (at-start .args .s) (at-len-of .len-of .ensures .0)))))) refl
+    let a = at-if1 .before .before .before .args in
+    let bs = bitsIn trit (a .f .now) in
+    λ steering d form w.
+    let out = drawn-out _ _ _ _ _ _ _ _ w ∙ not-false _ (at-if1 .if1 .left) in
+    let len = drawn-len _ _ _ _ _ _ _ _ w (at-len-of .len-of .result) (a .s) (at-len-of .len-of .ensures .0) in
+    let unfit = unfit-length _ _ _ _ _ _ _ _ w (a .s) bs (λ z. c .if3 .taken (sym (bits-in-length trit (a .f .now) form) ∙ z ∙ len)) in
+    agrees-refused _ _ _ 6 (a .n) (hold-6 d (a .n) (a .s) bs out unfit) refl
 
--- src/add.rt:124:8
 mul-if4 : tie.Need-mul-if4
-mul-if4 c = let r = c .before .before .len-of .ensures .1 (let ne = c .before .if2 .left in omega arith) in omega (arith, r .1, c .before .before .before .before .before .before .pre .0 .nodes-fit)
+mul-if4 c = omega (arith, in-range (c .before))
 
--- src/add.rt:124:8
 element-copy-out-if4 : tie.Need-element-copy-out-if4
-element-copy-out-if4 c =
-    let at-len-of = c .before .before in
-    let at-start = at-len-of .before .before .before .before in
-    let r = at-len-of .len-of .ensures .1 (let ne = c .before .if2 .left in omega arith) in omega (arith, r .1, at-start .pre .0 .nodes-fit)
+element-copy-out-if4 c = omega (arith, in-range (c .before))
 
--- src/add.rt:125:9
 returns-4 : tie.Need-returns-4
 returns-4 c =
     let at-if3 = c .before .before in
     let at-if2 = at-if3 .before in
-    let at-len-of = at-if2 .before in
-    let at-if1 = at-len-of .before in
-    let at-start = at-if1 .before .before .before in
-    λ steering d form w. let r = at-len-of .len-of .ensures .1 (let ne = at-if2 .if2 .left in omega arith) in agrees-refused _ _ _ 6 (at-start .args .n) (held-6 d (at-start .args .n) (at-start .args .s) (bitsIn trit (at-start .args .f .now)) (drawn-out (at-start .args .nodes .now) (at-start .args .bits .now) (at-start .args .known .now) steering (at-start .args .held .now) (at-start .args .t) d (at-start .args .n) w ∙ not-false _ (at-if1 .if1 .left)) (fit (at-start .args .nodes .now) (at-start .args .bits .now) (at-start .args .known .now) steering (at-start .args .held .now) (at-start .args .t) d (at-start .args .n) w (at-start .args .s) (bitsIn trit (at-start .args .f .now)) (λ z. at-if2 .if2 .left (sym (drawn-len (at-start .args .nodes .now) (at-start .args .bits .now) (at-start .args .known .now) steering (at-start .args .held .now) (at-start .args .t) d (at-start .args .n) w (at-len-of .len-of .result) (at-start .args .s) (at-len-of .len-of .ensures .0)) ∙ z)) (bits-in-length trit (at-start .args .f .now) form ∙ at-if3 .if3 .left ∙ sym (drawn-len (at-start .args .nodes .now) (at-start .args .bits .now) (at-start .args .known .now) steering (at-start .args .held .now) (at-start .args .t) d (at-start .args .n) w (at-len-of .len-of .result) (at-start .args .s) (at-len-of .len-of .ensures .0)))) (sym (w .held-is (at-start .args .s) (omega (arith, r .1, at-start .pre .0 .nodes-fit))) ∙ eq-eqb _ 1 (c .if4 .taken))) refl
+    let at-if1 = at-if2 .before .before in
+    let a = at-if1 .before .before .before .args in
+    λ steering d form w.
+    let out = drawn-out _ _ _ _ _ _ _ _ w ∙ not-false _ (at-if1 .if1 .left) in
+    let again = sym (w .held-is (a .s) (in-range at-if2)) ∙ eq-eqb _ 1 (c .if4 .taken) in
+    agrees-refused _ _ _ 6 (a .n) (held-6 d (a .n) (a .s) (bitsIn trit (a .f .now)) out (fits at-if3 form w) again) refl
 
--- src/add.rt:127:9
 words-of-requires : tie.Need-words-of-requires
 words-of-requires c κs =
     let at-if3 = c .before .before in
-    let at-if2 = at-if3 .before in
-    let at-len-of = at-if2 .before in
-    let at-start = at-len-of .before .before .before .before in
-    let r = at-len-of .len-of .ensures .1 (let ne = at-if2 .if2 .left in omega arith) in omega (arith, at-if3 .if3 .left, at-len-of .len-of .ensures .0, ap lenOf (node-in (at-start .args .nodes .now) ((at-start .args .t) .count) (at-start .args .s) (r .0) (r .1)), at-start .pre .1 (at-start .args .s) (r .0) (r .1))
+    let r = there (at-if3 .before) in
+    omega (arith, its-length at-if3, start (at-if3 .before) .pre .1 _ (r .0) (r .1))
 
--- src/add.rt:128:5
 mul-bits : tie.Need-mul-bits
-mul-bits c =
-    let at-if2 = c .before .before .before .before in
-    let at-len-of = at-if2 .before in
-    let at-start = at-len-of .before .before .before .before in
-    let r = at-len-of .len-of .ensures .1 (let ne = at-if2 .if2 .left in omega arith) in omega (arith, r .1, at-start .pre .0 .nodes-fit)
+mul-bits c = omega (arith, in-range (c .before .before .before .before))
 
--- src/add.rt:128:5
 element-write-bits : tie.Need-element-write-bits
-element-write-bits c =
-    let at-if2 = c .before .before .before .before in
-    let at-len-of = at-if2 .before in
-    let at-start = at-len-of .before .before .before .before in
-    let r = at-len-of .len-of .ensures .1 (let ne = at-if2 .if2 .left in omega arith) in omega (arith, r .1, at-start .pre .0 .nodes-fit)
+element-write-bits c = omega (arith, in-range (c .before .before .before .before))
 
--- src/add.rt:129:5
 mul-known : tie.Need-mul-known
-mul-known c =
-    let at-if2 = c .before .before .before .before in
-    let at-len-of = at-if2 .before in
-    let at-start = at-len-of .before .before .before .before in
-    let r = at-len-of .len-of .ensures .1 (let ne = at-if2 .if2 .left in omega arith) in omega (arith, r .1, at-start .pre .0 .nodes-fit)
+mul-known c = omega (arith, in-range (c .before .before .before .before))
 
--- src/add.rt:129:5
 element-write-known : tie.Need-element-write-known
-element-write-known c =
-    let at-if2 = c .before .before .before .before in
-    let at-len-of = at-if2 .before in
-    let at-start = at-len-of .before .before .before .before in
-    let r = at-len-of .len-of .ensures .1 (let ne = at-if2 .if2 .left in omega arith) in omega (arith, r .1, at-start .pre .0 .nodes-fit)
+element-write-known c = omega (arith, in-range (c .before .before .before .before))
 
--- src/add.rt:130:5
 mul-held : tie.Need-mul-held
-mul-held c =
-    let at-if2 = c .before .before .before .before in
-    let at-len-of = at-if2 .before in
-    let at-start = at-len-of .before .before .before .before in
-    let r = at-len-of .len-of .ensures .1 (let ne = at-if2 .if2 .left in omega arith) in omega (arith, r .1, at-start .pre .0 .nodes-fit)
+mul-held c = omega (arith, in-range (c .before .before .before .before))
 
--- src/add.rt:130:5
 element-write-held : tie.Need-element-write-held
-element-write-held c =
-    let at-if2 = c .before .before .before .before in
-    let at-len-of = at-if2 .before in
-    let at-start = at-len-of .before .before .before .before in
-    let r = at-len-of .len-of .ensures .1 (let ne = at-if2 .if2 .left in omega arith) in omega (arith, r .1, at-start .pre .0 .nodes-fit)
+element-write-held c = omega (arith, in-range (c .before .before .before .before))
 
--- src/add.rt:101:1
 returns-5 : tie.Need-returns-5
 returns-5 c =
     let at-if3 = c .before .before .before in
     let at-if2 = at-if3 .before in
-    let at-len-of = at-if2 .before in
-    let at-if1 = at-len-of .before in
-    let at-start = at-if1 .before .before .before in
-    λ steering d form w. let r = at-len-of .len-of .ensures .1 (let ne = at-if2 .if2 .left in omega arith) in let fresh = sym (w .held-is (at-start .args .s) (omega (arith, r .1, at-start .pre .0 .nodes-fit))) ∙ ne-eqb _ 1 (c .before .if4 .left) in let is = hold-added d (at-start .args .n) (at-start .args .s) (bitsIn trit (at-start .args .f .now)) (drawn-out (at-start .args .nodes .now) (at-start .args .bits .now) (at-start .args .known .now) steering (at-start .args .held .now) (at-start .args .t) d (at-start .args .n) w ∙ not-false _ (at-if1 .if1 .left)) (fit (at-start .args .nodes .now) (at-start .args .bits .now) (at-start .args .known .now) steering (at-start .args .held .now) (at-start .args .t) d (at-start .args .n) w (at-start .args .s) (bitsIn trit (at-start .args .f .now)) (λ z. at-if2 .if2 .left (sym (drawn-len (at-start .args .nodes .now) (at-start .args .bits .now) (at-start .args .known .now) steering (at-start .args .held .now) (at-start .args .t) d (at-start .args .n) w (at-len-of .len-of .result) (at-start .args .s) (at-len-of .len-of .ensures .0)) ∙ z)) (bits-in-length trit (at-start .args .f .now) form ∙ at-if3 .if3 .left ∙ sym (drawn-len (at-start .args .nodes .now) (at-start .args .bits .now) (at-start .args .known .now) steering (at-start .args .held .now) (at-start .args .t) d (at-start .args .n) w (at-len-of .len-of .result) (at-start .args .s) (at-len-of .len-of .ensures .0)))) fresh in agrees-ok _ _ _ (withHold d (at-start .args .s) (bitsIn trit (at-start .args .f .now))) is refl (rw (c .words-of .ensures .0, c .words-of .ensures .1) (with-hold (at-start .args .nodes .now) (at-start .args .bits .now) (at-start .args .known .now) steering (at-start .args .held .now) (at-start .args .t) d (at-start .args .n) w (at-start .args .s) (at-start .args .f .now) form (omega (arith, r .1, at-start .pre .0 .nodes-fit)) (at-if3 .if3 .left ∙ at-len-of .len-of .ensures .0 ∙ ap lenOf (node-in (at-start .args .nodes .now) ((at-start .args .t) .count) (at-start .args .s) (r .0) (r .1))) fresh is))
+    let at-if1 = at-if2 .before .before in
+    let a = at-if1 .before .before .before .args in
+    let bs = bitsIn trit (a .f .now) in
+    λ steering d form w.
+    let out = drawn-out _ _ _ _ _ _ _ _ w ∙ not-false _ (at-if1 .if1 .left) in
+    let fresh = sym (w .held-is (a .s) (in-range at-if2)) ∙ ne-eqb _ 1 (c .before .if4 .left) in
+    let is = hold-added d (a .n) (a .s) bs out (fits at-if3 form w) fresh in
+    agrees-ok _ _ _ (withHold d (a .s) bs) is refl
+    (rw (c .words-of .ensures .0, c .words-of .ensures .1)
+    (with-hold (a .nodes .now) (a .bits .now) (a .known .now) steering (a .held .now) (a .t) d (a .n) w (a .s) (a .f .now) form (in-range at-if2) (its-length at-if3) fresh is))
 
 pub add-hold-spec : {M : Type 1} → statement M
 add-hold-spec =

@@ -1,92 +1,109 @@
-use Rattle.path.specs.Layout.{wordBit}
-use Rattle.model.specs.Network.{tabulate}
-use Prim.Native.Nat.{ℕ}
+-- `network::add::add_write` meets its contract: a `write` line is refused with 4 or 6 in this order as the model refuses it,
+-- and otherwise answers as `add_target` does.
+-- Assumes nothing.
+use Rattle.path.specs.Layout.{nodeAt, wordBit}
+use Rattle.model.specs.Network.{tabulate, write, lenOf}
+use Prim.Native.Nat.{ℕ, _≤_}
 use lib.ListN.{length}
 use Rattle.path.proofs.FieldLaws.{bits-of-field}
 use Rattle.network.specs.Line.{bitsIn}
 use Rattle.model.specs.Text.{bit}
 use Rattle.network.proofs.BadAddresses.{node-in}
 use Rattle.network.proofs.AddingTargets.{target-4, target-6, target-rest, agrees-same}
-use Rattle.network.proofs.AddingHolds.{no-bits, with-bits, unfit-none, unfit-length, fit, bits-in-length, bits-are}
+use Rattle.network.proofs.AddingHolds.{unfit-none, unfit-length, fit, bits-in-length, bits-are}
 use Rattle.network.proofs.Drawing.{agrees-refused, drawn-out, drawn-len}
-use Rattle.model.specs.Network.{read, write, lenOf}
-use mathlib.Core.List.{[]}
-use mathlib.Core.Bool.{true, false}
 use borrow.Author.Tests.{not-true, not-false}
 use native.Mathlib.Omega.{arith}
-use mathlib.Core.Path.{refl, sym, ap, _∙_}
+use mathlib.Core.Path.{_≡_, sym, ap, _∙_}
 use borrow.Author.Needs.{needs}
 use Rattle.network.proofs.add.add_write.Statement.{statement}
 use Rattle.network.proofs.add.add_write.Tie as tie
-use Rattle.network.proofs.add.add_write.Reads as reads
-use Rattle.network.proofs.add.add_write.Lts as lts
-use Rattle.network.proofs.add.add_target.Reads as add-target-reads
-use Rattle.network.proofs.add.len_of.Reads as len-of-reads
-use Rattle.network.proofs.add.refuse.Reads as refuse-reads
-use Rattle.path.proofs.words.words_of.Reads as words-of-reads
 
--- src/add.rt:206:9
+abbrev start : tie.Else2 → tie.Start
+start c = c .before .before .before .before .before
+
+-- the segment is one of the nodes
+there : (c : tie.Else2) → (1 ≤ start c .args .s) × (start c .args .s ≤ start c .args .t .count)
+there c = c .before .len-of .ensures .1 (let ne = c .if2 .left in omega arith)
+
+-- BITS are as many as the segment has
+its-length : (c : tie.Else3) → length (start (c .before) .args .f .now) ≡ lenOf (nodeAt (start (c .before) .args .nodes .now) (start (c .before) .args .s))
+its-length c =
+    let r = there (c .before) in
+    c .if3 .left ∙ c .before .before .len-of .ensures .0 ∙ ap lenOf (node-in _ _ _ (r .0) (r .1))
+
 refuse-requires : tie.Need-refuse-requires
 refuse-requires c κs = search needs
 
--- src/add.rt:206:9
 returns : tie.Need-returns
 returns c =
-    let at-start = c .before .before .before .before in
-    λ bits known held d form w. agrees-refused _ _ _ 4 (at-start .args .n) (target-4 d (at-start .args .n) (write (at-start .args .s) (bitsIn bit (at-start .args .f .now))) (drawn-out (at-start .args .nodes .now) bits known (at-start .args .steering .now) held (at-start .args .t) d (at-start .args .n) w ∙ not-true _ (c .before .if1 .taken))) (c .refuse .ensures)
+    let a = c .before .before .before .before .args in
+    λ bits known held d form w.
+    let out = drawn-out _ _ _ _ _ _ _ _ w ∙ not-true _ (c .before .if1 .taken) in
+    agrees-refused _ _ _ 4 (a .n) (target-4 d (a .n) (write (a .s) (bitsIn bit (a .f .now))) out) (c .refuse .ensures)
 
--- src/add.rt:208:9
 len-of-requires : tie.Need-len-of-requires
 len-of-requires c κs = search needs
 
--- src/add.rt:210:9
 refuse-requires-2 : tie.Need-refuse-requires-2
 refuse-requires-2 c κs = search needs
 
--- src/add.rt:210:9
 returns-2 : tie.Need-returns-2
 returns-2 c =
     let at-len-of = c .before .before in
     let at-if1 = at-len-of .before in
-    let at-start = at-if1 .before .before .before in
-    λ bits known held d form w. agrees-refused _ _ _ 6 (at-start .args .n) (target-6 d (at-start .args .n) (write (at-start .args .s) (bitsIn bit (at-start .args .f .now))) (drawn-out (at-start .args .nodes .now) bits known (at-start .args .steering .now) held (at-start .args .t) d (at-start .args .n) w ∙ not-false _ (at-if1 .if1 .left)) (unfit-none (at-start .args .nodes .now) bits known (at-start .args .steering .now) held (at-start .args .t) d (at-start .args .n) w (at-start .args .s) (bitsIn bit (at-start .args .f .now)) ((drawn-len (at-start .args .nodes .now) bits known (at-start .args .steering .now) held (at-start .args .t) d (at-start .args .n) w (at-len-of .len-of .result) (at-start .args .s) (at-len-of .len-of .ensures .0)) ∙ c .before .if2 .taken))) (c .refuse2 .ensures)
+    let a = at-if1 .before .before .before .args in
+    let bs = bitsIn bit (a .f .now) in
+    λ bits known held d form w.
+    let out = drawn-out _ _ _ _ _ _ _ _ w ∙ not-false _ (at-if1 .if1 .left) in
+    let len = drawn-len _ _ _ _ _ _ _ _ w (at-len-of .len-of .result) (a .s) (at-len-of .len-of .ensures .0) in
+    let unfit = unfit-none _ _ _ _ _ _ _ _ w (a .s) bs (len ∙ c .before .if2 .taken) in
+    agrees-refused _ _ _ 6 (a .n) (target-6 d (a .n) (write (a .s) bs) out unfit) (c .refuse2 .ensures)
 
--- src/add.rt:213:9
 refuse-requires-3 : tie.Need-refuse-requires-3
 refuse-requires-3 c κs = search needs
 
--- src/add.rt:213:9
 returns-3 : tie.Need-returns-3
 returns-3 c =
     let at-len-of = c .before .before .before in
     let at-if1 = at-len-of .before in
-    let at-start = at-if1 .before .before .before in
-    λ bits known held d form w. agrees-refused _ _ _ 6 (at-start .args .n) (target-6 d (at-start .args .n) (write (at-start .args .s) (bitsIn bit (at-start .args .f .now))) (drawn-out (at-start .args .nodes .now) bits known (at-start .args .steering .now) held (at-start .args .t) d (at-start .args .n) w ∙ not-false _ (at-if1 .if1 .left)) (unfit-length (at-start .args .nodes .now) bits known (at-start .args .steering .now) held (at-start .args .t) d (at-start .args .n) w (at-start .args .s) (bitsIn bit (at-start .args .f .now)) (λ z. c .before .if3 .taken (sym (bits-in-length bit (at-start .args .f .now) form) ∙ z ∙ (drawn-len (at-start .args .nodes .now) bits known (at-start .args .steering .now) held (at-start .args .t) d (at-start .args .n) w (at-len-of .len-of .result) (at-start .args .s) (at-len-of .len-of .ensures .0)))))) (c .refuse3 .ensures)
+    let a = at-if1 .before .before .before .args in
+    let bs = bitsIn bit (a .f .now) in
+    λ bits known held d form w.
+    let out = drawn-out _ _ _ _ _ _ _ _ w ∙ not-false _ (at-if1 .if1 .left) in
+    let len = drawn-len _ _ _ _ _ _ _ _ w (at-len-of .len-of .result) (a .s) (at-len-of .len-of .ensures .0) in
+    let unfit = unfit-length _ _ _ _ _ _ _ _ w (a .s) bs (λ z. c .before .if3 .taken (sym (bits-in-length bit (a .f .now) form) ∙ z ∙ len)) in
+    agrees-refused _ _ _ 6 (a .n) (target-6 d (a .n) (write (a .s) bs) out unfit) (c .refuse3 .ensures)
 
--- src/add.rt:215:9
 words-of-requires : tie.Need-words-of-requires
 words-of-requires c κs =
-    let at-len-of = c .before .before in
-    let at-start = at-len-of .before .before .before .before in
-    let r = at-len-of .len-of .ensures .1 (let ne = c .before .if2 .left in omega arith) in omega (arith, c .if3 .left, at-len-of .len-of .ensures .0, ap lenOf (node-in (at-start .args .nodes .now) ((at-start .args .t) .count) (at-start .args .s) (r .0) (r .1)), at-start .pre .1 (at-start .args .s) (r .0) (r .1))
+    let r = there (c .before) in
+    omega (arith, its-length c, start (c .before) .pre .1 _ (r .0) (r .1))
 
--- src/add.rt:216:5
 add-target-requires : tie.Need-add-target-requires
 add-target-requires c κs =
     let at-if2 = c .before .before in
-    let at-len-of = at-if2 .before in
-    let at-start = at-len-of .before .before .before .before in
-    let r = at-len-of .len-of .ensures .1 (let ne = at-if2 .if2 .left in omega arith) in (at-start .pre .0, omega (arith, r .1, at-start .pre .0 .nodes-fit))
+    let p = start at-if2 .pre .0 in
+    (p, omega (arith, there at-if2 .1, p .nodes-fit))
 
--- src/add.rt:201:1
 returns-4 : tie.Need-returns-4
 returns-4 c =
     let at-if3 = c .before .before in
     let at-if2 = at-if3 .before in
     let at-len-of = at-if2 .before in
     let at-if1 = at-len-of .before in
-    let at-start = at-if1 .before .before .before in
-    λ bits known held d form w. let r = at-len-of .len-of .ensures .1 (let ne = at-if2 .if2 .left in omega arith) in let fits = (fit (at-start .args .nodes .now) bits known (at-start .args .steering .now) held (at-start .args .t) d (at-start .args .n) w (at-start .args .s) (bitsIn bit (at-start .args .f .now)) (λ z. at-if2 .if2 .left (sym (drawn-len (at-start .args .nodes .now) bits known (at-start .args .steering .now) held (at-start .args .t) d (at-start .args .n) w (at-len-of .len-of .result) (at-start .args .s) (at-len-of .len-of .ensures .0)) ∙ z)) (bits-in-length bit (at-start .args .f .now) form ∙ at-if3 .if3 .left ∙ sym (drawn-len (at-start .args .nodes .now) bits known (at-start .args .steering .now) held (at-start .args .t) d (at-start .args .n) w (at-len-of .len-of .result) (at-start .args .s) (at-len-of .len-of .ensures .0)))) in let len = at-if3 .if3 .left ∙ at-len-of .len-of .ensures .0 ∙ ap lenOf (node-in (at-start .args .nodes .now) ((at-start .args .t) .count) (at-start .args .s) (r .0) (r .1)) in agrees-same _ _ _ _ (target-rest d (at-start .args .n) (write (at-start .args .s) (bitsIn bit (at-start .args .f .now))) (drawn-out (at-start .args .nodes .now) bits known (at-start .args .steering .now) held (at-start .args .t) d (at-start .args .n) w ∙ not-false _ (at-if1 .if1 .left)) fits) (c .add-target .ensures (at-start .args .nodes .now) bits known held (bitsIn bit (at-start .args .f .now)) d (drawn-out (at-start .args .nodes .now) bits known (at-start .args .steering .now) held (at-start .args .t) d (at-start .args .n) w ∙ not-false _ (at-if1 .if1 .left)) fits (λ z. ap (λ (x : ℕ). tabulate (wordBit (c .before .words-of .result .bits)) 0 x) (sym len) ∙ ap (λ (x : ℕ). tabulate (wordBit x) 0 (length (at-start .args .f .now))) (c .before .words-of .ensures .0) ∙ bits-of-field (at-start .args .f .now) (bitsIn bit (at-start .args .f .now)) (bits-are bit (at-start .args .f .now) form)) w)
+    let a = at-if1 .before .before .before .args in
+    let bs = bitsIn bit (a .f .now) in
+    λ bits known held d form w.
+    let out = drawn-out _ _ _ _ _ _ _ _ w ∙ not-false _ (at-if1 .if1 .left) in
+    let len = drawn-len _ _ _ _ _ _ _ _ w (at-len-of .len-of .result) (a .s) (at-len-of .len-of .ensures .0) in
+    let many = bits-in-length bit (a .f .now) form ∙ at-if3 .if3 .left ∙ sym len in
+    let fits = fit _ _ _ _ _ _ _ _ w (a .s) bs (λ z. at-if2 .if2 .left (sym len ∙ z)) many in
+    agrees-same _ _ _ _ (target-rest d (a .n) (write (a .s) bs) out fits)
+    (c .add-target .ensures (a .nodes .now) bits known held bs d out fits
+    (λ z. ap (λ (x : ℕ). tabulate (wordBit (c .before .words-of .result .bits)) 0 x) (sym (its-length at-if3))
+    ∙ ap (λ (x : ℕ). tabulate (wordBit x) 0 (length (a .f .now))) (c .before .words-of .ensures .0)
+    ∙ bits-of-field (a .f .now) bs (bits-are bit (a .f .now) form)) w)
 
 pub add-write-spec : {M : Type 1} → statement M
 add-write-spec =

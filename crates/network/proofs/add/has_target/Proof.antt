@@ -1,3 +1,5 @@
+-- `network::add::has_target` meets its contract.
+-- Assumes nothing.
 use Rattle.network.specs.Draws.{targetAt, targetsOf, targetFor}
 use Rattle.model.specs.NetworkText.{isTarget}
 use Rattle.model.specs.Network.{tabulate}
@@ -6,13 +8,10 @@ use borrow.Author.Needs.{needs}
 use Prim.Native.Nat.{ℕ, _≤_, _-_}
 use mathlib.Core.List.{List}
 use mathlib.Core.Bool.{Bool}
-use mathlib.Core.Path.{_≡_, refl, sym, _∙_}
+use mathlib.Core.Path.{_≡_, refl, _∙_}
 use Rattle.network.proofs.AddingTargets.{there-start, there-hit, there-miss, there-end}
 use Rattle.network.proofs.add.has_target.Statement.{statement}
 use Rattle.network.proofs.add.has_target.Tie as tie
-use Rattle.network.proofs.add.has_target.Reads as reads
-use Rattle.network.proofs.add.has_target.Lts as lts
-use Rattle.network.proofs.add.is_same.Reads as is-same-reads
 
 abbrev Inv-loop : tie.InvT-loop
 Inv-loop s write t count i₀ i =
@@ -22,53 +21,42 @@ Inv-loop s write t count i₀ i =
 abbrev μ-loop : tie.MeasureT-loop
 μ-loop s write t count i₀ i = count - i
 
--- src/add.rt:141:5
 loop-holds : tie.Need-loop-holds Inv-loop μ-loop
 loop-holds c = (omega arith, refl, omega (arith, c .pre .targets-fit), λ ns bs. there-start ns (c .args .t1) (c .args .s) (c .args .write) bs)
 
--- src/add.rt:142:20
 mul-is-same : tie.Need-mul-is-same Inv-loop μ-loop
 mul-is-same c = search needs
 
--- src/add.rt:142:20
 element-copy-out-is-same : tie.Need-element-copy-out-is-same Inv-loop μ-loop
 element-copy-out-is-same c = search needs
 
--- src/add.rt:142:41
 mul-is-same-2 : tie.Need-mul-is-same-2 Inv-loop μ-loop
 mul-is-same-2 c = search needs
 
--- src/add.rt:142:41
 element-copy-out-is-same-2 : tie.Need-element-copy-out-is-same-2 Inv-loop μ-loop
 element-copy-out-is-same-2 c = search needs
 
--- src/add.rt:142:12
 is-same-requires : tie.Need-is-same-requires Inv-loop μ-loop
 is-same-requires c κs = search needs
 
--- src/add.rt:143:13
 returns : tie.Need-returns Inv-loop μ-loop
 returns c =
     let at-loop = c .before .before .before .before .before in
     let at-start = at-loop .before in
     λ ns bs. there-hit ns (at-start .args .t1) (at-start .args .s) (at-start .args .write) bs (at-loop .loop .i) (c .before .is-same .result) (c .before .is-same .ensures) (search needs) (c .if1 .taken) ∙ at-loop .loop .inv .3 ns bs
 
--- src/add.rt:145:9
 add-i : tie.Need-add-i Inv-loop μ-loop
 add-i c = search needs
 
--- src/add.rt:141:5
 loop-less : tie.Need-loop-less Inv-loop μ-loop
 loop-less c = search needs
 
--- src/add.rt:141:5
 loop-again : tie.Need-loop-again Inv-loop μ-loop
 loop-again c =
     let at-loop = c .before .before .before .before .before in
     let at-start = at-loop .before in
     (search needs, search needs, search needs, λ ns bs. there-miss ns (at-start .args .t1) (at-start .args .s) (at-start .args .write) bs (at-loop .loop .i) (c .before .is-same .result) (c .before .is-same .ensures) (search needs) (c .if1 .left) ∙ at-loop .loop .inv .3 ns bs)
 
--- src/add.rt:135:1
 returns-2 : tie.Need-returns-2 Inv-loop μ-loop
 returns-2 c = λ ns bs. there-end ns (c .before .before .args .t1) (c .before .before .args .s) (c .before .before .args .write) bs (c .before .loop .i) (search needs) ∙ c .before .loop .inv .3 ns bs
 

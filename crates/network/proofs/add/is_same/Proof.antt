@@ -1,28 +1,23 @@
+-- `network::add::is_same` meets its contract.
+-- Assumes nothing.
 use mathlib.Core.Path.{sym, _∙_}
 use Rattle.network.proofs.AddingTargets.{same-no, same-write, same-read}
 use borrow.Author.Needs.{needs}
 use Rattle.network.proofs.add.is_same.Statement.{statement}
 use Rattle.network.proofs.add.is_same.Tie as tie
-use Rattle.network.proofs.add.is_same.Reads as reads
-use Rattle.network.proofs.add.is_same.Lts as lts
-use Rattle.path.proofs.layout.wide.Reads as wide-reads
 
--- src/add.rt:153:8
 wide-requires : tie.Need-wide-requires
 wide-requires c κs = search needs
 
--- src/add.rt:154:9
 returns : tie.Need-returns
 returns c = same-no (c .before .before .args .segment) (c .before .before .args .word) (c .before .before .args .s) (c .before .before .args .write) (λ z. c .if1 .taken (c .before .wide .ensures ∙ z))
 
--- src/add.rt:157:9
 returns-2 : tie.Need-returns-2
 returns-2 c =
     let at-wide = c .before .before in
     let at-start = at-wide .before in
     same-write (at-start .args .segment) (at-start .args .word) (at-start .args .s) (at-start .args .write) (sym (at-wide .wide .ensures) ∙ c .before .if1 .left) (c .if2 .taken)
 
--- src/add.rt:150:1
 returns-3 : tie.Need-returns-3
 returns-3 c =
     let at-wide = c .before .before in

@@ -1,16 +1,14 @@
+-- `network::bad::first_bad` meets its contract.
+-- Assumes nothing.
 use Rattle.network.specs.Draws.{Formed}
 use Rattle.model.specs.NetworkText.{firstBad}
 use Rattle.path.specs.Layout.{nodesOf}
 use Prim.Native.Nat.{_≤_, _-_, _+_}
-use mathlib.Core.Path.{_≡_, refl, sym, ap, _∙_}
+use mathlib.Core.Path.{_≡_, refl, sym, _∙_}
 use borrow.Author.Needs.{needs}
-use native.Mathlib.Omega.{arith}
 use Rattle.network.proofs.BadAddresses.{badFrom, bad-start, bad-hit, bad-miss, bad-end}
 use Rattle.network.proofs.bad.first_bad.Statement.{statement}
 use Rattle.network.proofs.bad.first_bad.Tie as tie
-use Rattle.network.proofs.bad.first_bad.Reads as reads
-use Rattle.network.proofs.bad.first_bad.Lts as lts
-use Rattle.network.proofs.bad.is_bad.Reads as is-bad-reads
 
 abbrev Inv-loop : tie.InvT-loop
 Inv-loop nodes count k₀ k = (1 ≤ k) × (k ≤ count + 1) × (count ≤ 128) × Formed nodes count × (badFrom nodes count k ≡ firstBad (nodesOf nodes count) 1 (nodesOf nodes count))
@@ -18,33 +16,26 @@ Inv-loop nodes count k₀ k = (1 ≤ k) × (k ≤ count + 1) × (count ≤ 128) 
 abbrev μ-loop : tie.MeasureT-loop
 μ-loop nodes count k₀ k = count + 1 - k
 
--- src/bad.rt:45:5
 loop-holds : tie.Need-loop-holds Inv-loop μ-loop
 loop-holds c = (search needs, search needs, search needs, c .pre .1, bad-start _ _ _ refl)
 
--- src/bad.rt:46:12
 is-bad-requires : tie.Need-is-bad-requires Inv-loop μ-loop
 is-bad-requires c κs = (search needs, search needs, search needs, c .before .loop .inv .3)
 
--- src/bad.rt:47:13
 returns : tie.Need-returns Inv-loop μ-loop
 returns c = bad-hit _ _ _ (search needs) (search needs) (sym (c .before .is-bad .ensures) ∙ c .if1 .taken) ∙ c .before .before .before .loop .inv .4
 
--- src/bad.rt:49:9
 add-k : tie.Need-add-k Inv-loop μ-loop
 add-k c = search needs
 
--- src/bad.rt:45:5
 loop-less : tie.Need-loop-less Inv-loop μ-loop
 loop-less c = search needs
 
--- src/bad.rt:45:5
 loop-again : tie.Need-loop-again Inv-loop μ-loop
 loop-again c =
     let at-loop = c .before .before .before in
     (search needs, search needs, search needs, at-loop .loop .inv .3, bad-miss _ _ _ (search needs) (sym (c .before .is-bad .ensures) ∙ c .if1 .left) ∙ at-loop .loop .inv .4)
 
--- src/bad.rt:40:1
 returns-2 : tie.Need-returns-2 Inv-loop μ-loop
 returns-2 c = bad-end _ _ _ (search needs) ∙ c .before .loop .inv .4
 

@@ -1,15 +1,14 @@
+-- `network::counts::steering_in` meets its contract.
+-- Assumes nothing.
 use Rattle.path.specs.Layout.{wordWidth, wordBit}
 use Rattle.network.proofs.Counting.{value-most, count-start, count-step, count-end}
 use Rattle.network.specs.Counts.{countIn}
 use borrow.Author.Needs.{needs}
 use native.Mathlib.Omega.{arith}
 use Prim.Native.Nat.{_+_, _-_, _≤_}
-use mathlib.Core.Path.{_≡_, refl, sym, ap, _∙_}
+use mathlib.Core.Path.{_≡_}
 use Rattle.network.proofs.counts.steering_in.Statement.{statement}
 use Rattle.network.proofs.counts.steering_in.Tie as tie
-use Rattle.network.proofs.counts.steering_in.Reads as reads
-use Rattle.network.proofs.counts.steering_in.Lts as lts
-use Rattle.path.proofs.words.bit_at.Reads as bit-at-reads
 
 abbrev Inv-loop : tie.InvT-loop
 Inv-loop word len sum₀ b₀ sum b = (b ≤ len) × (len ≤ wordWidth) × (sum ≤ b) × (sum + countIn word b (len - b) ≡ countIn word 0 len)
@@ -17,34 +16,27 @@ Inv-loop word len sum₀ b₀ sum b = (b ≤ len) × (len ≤ wordWidth) × (sum
 abbrev μ-loop : tie.MeasureT-loop
 μ-loop word len sum₀ b₀ sum b = len - b
 
--- src/counts.rt:18:5
 loop-holds : tie.Need-loop-holds Inv-loop μ-loop
 loop-holds c = (omega arith, c .pre, omega arith, count-start _ _)
 
--- src/counts.rt:19:16
 bit-at-requires : tie.Need-bit-at-requires Inv-loop μ-loop
 bit-at-requires c κs = search needs
 
--- src/counts.rt:19:9
 add-sum : tie.Need-add-sum Inv-loop μ-loop
 add-sum c = let e = value-most (wordBit (c .before .before .before .args .word) (c .before .before .loop .b)) in search needs
 
--- src/counts.rt:20:9
 add-b : tie.Need-add-b Inv-loop μ-loop
 add-b c = search needs
 
--- src/counts.rt:18:5
 loop-less : tie.Need-loop-less Inv-loop μ-loop
 loop-less c = search needs
 
--- src/counts.rt:18:5
 loop-again : tie.Need-loop-again Inv-loop μ-loop
 loop-again c =
     let at-loop = c .before .before in
     let at-start = at-loop .before in
     let e = value-most (wordBit (at-start .args .word) (at-loop .loop .b)) in let k = count-step (at-start .args .word) (at-loop .loop .b) (at-start .args .len) (search needs) in (search needs, search needs, search needs, omega (arith, at-loop .loop .inv .3, c .bit-at .ensures, k))
 
--- src/counts.rt:12:1
 returns : tie.Need-returns Inv-loop μ-loop
 returns c = let k = count-end (c .before .before .args .word) (c .before .loop .b) (c .before .before .args .len) (search needs) in (omega (arith, c .before .loop .inv .3, k), search needs)
 

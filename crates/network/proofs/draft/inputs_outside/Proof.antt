@@ -1,41 +1,34 @@
+-- `network::draft::inputs_outside` meets its contract.
+-- Assumes nothing.
 use borrow.Author.Needs.{needs}
-use native.Mathlib.Omega.{arith}
 use Rattle.network.proofs.Nodes.{any-first, any-second, none-of-two, any-third, none-of-three, any-last}
 use Rattle.network.proofs.draft.inputs_outside.Statement.{statement}
 use Rattle.network.proofs.draft.inputs_outside.Tie as tie
-use Rattle.network.proofs.draft.inputs_outside.Reads as reads
-use Rattle.network.proofs.draft.inputs_outside.Lts as lts
 
--- src/draft.rt:30:9
 returns : tie.Need-returns
 returns c = any-first (c .before .args .n) (c .before .args .count) (c .before .args .a) (c .before .args .b) (c .before .args .c) (c .before .args .d) (search needs) (search needs) (search needs)
 
--- src/draft.rt:33:9
 returns-2 : tie.Need-returns-2
 returns-2 c =
     let at-start = c .before .before in
     any-second (at-start .args .n) (at-start .args .count) (at-start .args .a) (at-start .args .b) (at-start .args .c) (at-start .args .d) (search needs) (search needs) (search needs) (search needs)
 
--- src/draft.rt:36:9
 returns-3 : tie.Need-returns-3
 returns-3 c =
     let at-start = c .before .before .before in
     none-of-two (at-start .args .n) (at-start .args .count) (at-start .args .a) (at-start .args .b) (at-start .args .c) (at-start .args .d) (search needs) (search needs) (search needs) (search needs) (search needs)
 
--- src/draft.rt:39:9
 returns-4 : tie.Need-returns-4
 returns-4 c =
     let at-start = c .before .before .before .before in
     any-third (at-start .args .n) (at-start .args .count) (at-start .args .a) (at-start .args .b) (at-start .args .c) (at-start .args .d) (search needs) (search needs) (search needs) (search needs) (c .before .if3 .left) (search needs)
 
--- src/draft.rt:42:9
 returns-5 : tie.Need-returns-5
 returns-5 c =
     let at-if3 = c .before .before in
     let at-start = at-if3 .before .before .before in
     none-of-three (at-start .args .n) (at-start .args .count) (at-start .args .a) (at-start .args .b) (at-start .args .c) (at-start .args .d) (search needs) (search needs) (search needs) (search needs) (at-if3 .if3 .left) (search needs) (search needs)
 
--- src/draft.rt:25:1
 returns-6 : tie.Need-returns-6
 returns-6 c =
     let at-if3 = c .before .before in

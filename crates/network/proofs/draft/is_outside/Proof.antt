@@ -1,46 +1,37 @@
-use native.Mathlib.Omega.{arith}
+-- `network::draft::is_outside` meets its contract.
+-- Assumes nothing.
 use Rattle.network.proofs.Nodes.{outside-from, outside-short, outside-long}
 use borrow.Author.Needs.{needs}
 use Rattle.network.proofs.draft.is_outside.Statement.{statement}
 use Rattle.network.proofs.draft.is_outside.Tie as tie
-use Rattle.network.proofs.draft.is_outside.Reads as reads
-use Rattle.network.proofs.draft.is_outside.Lts as lts
-use Rattle.network.proofs.draft.inputs_outside.Reads as inputs-outside-reads
 
--- src/draft.rt:53:29
 enum-known-x : tie.Need-enum-known-x
 enum-known-x c = search needs
 
--- src/draft.rt:55:17
 returns : tie.Need-returns
 returns c =
     let at-x = c .before .before in
     let at-start = at-x .before .before in
     rw (at-x .x .given .1) (outside-from (at-start .args .n) (at-x .x .given .0 .0) (at-x .x .given .0 .1 .0) (at-x .x .given .0 .1 .1 .0) (c .if1 .taken))
 
--- src/draft.rt:58:17
 returns-2 : tie.Need-returns-2
 returns-2 c =
     let at-x = c .before .before .before in
     let at-start = at-x .before .before in
     rw (at-x .x .given .1) (outside-short (at-start .args .n) (at-x .x .given .0 .0) (at-x .x .given .0 .1 .0) (at-x .x .given .0 .1 .1 .0) (c .before .if1 .left) (c .if2 .taken))
 
--- src/draft.rt:62:49
 enum-known-x-2 : tie.Need-enum-known-x-2
 enum-known-x-2 c = search needs
 
--- src/draft.rt:63:13
 inputs-outside-requires : tie.Need-inputs-outside-requires
 inputs-outside-requires c κs = let p = rw (c .before .x2 .given .1) at (c .before .before .before .pre) in (p .2, p .3)
 
--- src/draft.rt:48:1
 returns-3 : tie.Need-returns-3
 returns-3 c =
     let at-x = c .before .before .before in
     let at-start = at-x .before .before in
     rw (at-x .x .given .1) (outside-long (at-start .args .n) (at-x .x .given .0 .0) (at-x .x .given .0 .1 .0) (at-x .x .given .0 .1 .1 .0) (c .before .if1 .left) (c .if2 .left))
 
--- src/draft.rt:48:1
 returns-4 : tie.Need-returns-4
 returns-4 c = rw (c .before .before .x2 .given .1) (c .inputs-outside .ensures)
 

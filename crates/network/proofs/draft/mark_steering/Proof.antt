@@ -1,36 +1,29 @@
+-- `network::draft::mark_steering` meets its contract.
+-- Assumes nothing.
 use native.Mathlib.Omega.{arith}
 use Rattle.network.proofs.Nodes.{marked-none, marked-one, marked-two}
 use borrow.Author.Needs.{needs}
 use Rattle.network.proofs.draft.mark_steering.Statement.{statement}
 use Rattle.network.proofs.draft.mark_steering.Tie as tie
-use Rattle.network.proofs.draft.mark_steering.Reads as reads
-use Rattle.network.proofs.draft.mark_steering.Lts as lts
-use Rattle.network.proofs.draft.mark_bit.Reads as mark-bit-reads
 
 enum-told : tie.Need-enum-told
 enum-told c = search needs
 
--- src/draft.rt:128:33
 enum-known-x : tie.Need-enum-known-x
 enum-known-x c = search needs
 
--- src/draft.rt:129:13
 mark-bit-requires : tie.Need-mark-bit-requires
 mark-bit-requires c κs = search needs
 
--- src/draft.rt:131:41
 add-mark-bit : tie.Need-add-mark-bit
 add-mark-bit c = let p = rw (c .before .before .before .before .before .x .given .1) at (c .before .before .before .before .before .before .before .pre .0) in omega (arith, p .1)
 
--- src/draft.rt:131:17
 mark-bit-requires-2 : tie.Need-mark-bit-requires-2
 mark-bit-requires-2 c κs = search needs
 
--- src/draft.rt:122:1
 returns : tie.Need-returns
 returns c = rw (c .enum-told .given .1) (marked-none _ _ _ _)
 
--- src/draft.rt:122:1
 returns-2 : tie.Need-returns-2
 returns-2 c =
     let at-if1 = c .before .before in
@@ -39,7 +32,6 @@ returns-2 c =
     let at-start = at-x .before .before in
     let p = rw (at-x .x .given .1) at (at-start .pre .0) in rw (at-x .x .given .1) (marked-two _ _ _ _ _ _ _ _ _ _ (at-if1 .if1 .taken) (p .3) (at-mark-bit .mark-bit .ensures) (c .mark-bit2 .ensures))
 
--- src/draft.rt:122:1
 returns-3 : tie.Need-returns-3
 returns-3 c =
     let at-x = c .before .before .before .before in

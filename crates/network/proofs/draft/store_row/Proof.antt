@@ -1,13 +1,10 @@
-use native.Mathlib.Omega.{arith}
+-- `network::draft::store_row` meets its contract.
+-- Assumes nothing.
 use borrow.Author.Needs.{needs}
-use lib.ListN.{length}
 use Prim.Native.Nat.{_≤_, _-_}
-use mathlib.Core.Path.{_≡_}
 use Rattle.network.proofs.Nodes.{Storing, storing-none, storing-more, storing-all}
 use Rattle.network.proofs.draft.store_row.Statement.{statement}
 use Rattle.network.proofs.draft.store_row.Tie as tie
-use Rattle.network.proofs.draft.store_row.Reads as reads
-use Rattle.network.proofs.draft.store_row.Lts as lts
 
 abbrev Inv-loop : tie.InvT-loop
 Inv-loop nodes₀ k row base i₀ nodes i = (i ≤ 8) × (k ≤ 128) × Storing nodes₀ k row i nodes
@@ -15,47 +12,36 @@ Inv-loop nodes₀ k row base i₀ nodes i = (i ≤ 8) × (k ≤ 128) × Storing 
 abbrev μ-loop : tie.MeasureT-loop
 μ-loop nodes₀ k row base i₀ nodes i = 8 - i
 
--- src/draft.rt:123:16
 mul-base : tie.Need-mul-base Inv-loop μ-loop
 mul-base c = search needs
 
--- src/draft.rt:125:5
 loop-holds : tie.Need-loop-holds Inv-loop μ-loop
 loop-holds c = (search needs, search needs, storing-none _ _ _)
 
--- src/draft.rt:126:27
 mul-nodes : tie.Need-mul-nodes Inv-loop μ-loop
 mul-nodes c = search needs
 
--- src/draft.rt:126:27
 array-read-nodes : tie.Need-array-read-nodes Inv-loop μ-loop
 array-read-nodes c = search needs
 
--- src/draft.rt:126:15
 add-nodes : tie.Need-add-nodes Inv-loop μ-loop
 add-nodes c = search needs
 
--- src/draft.rt:126:9
 mul-nodes-2 : tie.Need-mul-nodes-2 Inv-loop μ-loop
 mul-nodes-2 c = search needs
 
--- src/draft.rt:126:9
 element-write-nodes : tie.Need-element-write-nodes Inv-loop μ-loop
 element-write-nodes c = search needs
 
--- src/draft.rt:127:9
 add-i : tie.Need-add-i Inv-loop μ-loop
 add-i c = search needs
 
--- src/draft.rt:125:5
 loop-less : tie.Need-loop-less Inv-loop μ-loop
 loop-less c = search needs
 
--- src/draft.rt:125:5
 loop-again : tie.Need-loop-again Inv-loop μ-loop
 loop-again c = (search needs, search needs, storing-more _ _ _ _ _ (search needs) (search needs) (search needs) (c .before .loop .inv .2))
 
--- src/draft.rt:119:1
 returns : tie.Need-returns Inv-loop μ-loop
 returns c = storing-all _ _ _ _ _ (search needs) (search needs) (c .before .loop .inv .2)
 

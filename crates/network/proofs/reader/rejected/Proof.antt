@@ -1,18 +1,15 @@
+-- `network::reader::rejected` meets its contract.
+-- Assumes nothing.
 use Rattle.network.specs.Reads.{noNetwork}
 use Rattle.network.specs.declared.draft.Tally.{Tally}
 use mathlib.Core.Path.{refl, ap}
 use borrow.Author.Needs.{needs}
 use Rattle.network.proofs.reader.rejected.Statement.{statement}
 use Rattle.network.proofs.reader.rejected.Tie as tie
-use Rattle.network.proofs.reader.rejected.Reads as reads
-use Rattle.network.proofs.reader.rejected.Lts as lts
-use Rattle.network.proofs.reader.empty_tally.Reads as empty-tally-reads
 
--- src/reader.rt:162:20
 empty-tally-requires : tie.Need-empty-tally-requires
 empty-tally-requires c κs = search needs
 
--- src/reader.rt:152:1
 returns : tie.Need-returns
 returns c =
     (refl, ap (λ (t : Tally). record { nodes = noNetwork .nodes; bits = noNetwork .bits; known = noNetwork .known; steering = noNetwork .steering; tally = t; «steering_count» = 0; «start_length» = 0 }) (c .empty-tally .ensures))

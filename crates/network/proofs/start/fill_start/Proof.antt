@@ -1,4 +1,5 @@
-use native.Mathlib.Omega.{arith}
+-- `network::start::fill_start` meets its contract.
+-- Assumes nothing.
 use borrow.Author.Needs.{needs}
 use lib.ListN.{length}
 use Prim.Native.Nat.{_+_, _-_, _≤_}
@@ -6,9 +7,6 @@ use mathlib.Core.Path.{_≡_, _∙_}
 use Rattle.network.proofs.Starting.{Filling, filling-none, filling-more, filling-all}
 use Rattle.network.proofs.start.fill_start.Statement.{statement}
 use Rattle.network.proofs.start.fill_start.Tie as tie
-use Rattle.network.proofs.start.fill_start.Reads as reads
-use Rattle.network.proofs.start.fill_start.Lts as lts
-use Rattle.network.proofs.start.fill_one.Reads as fill-one-reads
 
 abbrev Inv-loop : tie.InvT-loop
 Inv-loop bits₀ known₀ steering held count s₀ bits known s =
@@ -17,29 +15,23 @@ Inv-loop bits₀ known₀ steering held count s₀ bits known s =
 abbrev μ-loop : tie.MeasureT-loop
 μ-loop bits₀ known₀ steering held count s₀ bits known s = count + 1 - s
 
--- src/start.rt:38:5
 loop-holds : tie.Need-loop-holds Inv-loop μ-loop
 loop-holds c = (search needs, search needs, search needs, search needs, search needs, filling-none _ _ _ _)
 
--- src/start.rt:39:9
 fill-one-requires : tie.Need-fill-one-requires Inv-loop μ-loop
 fill-one-requires c κs =
     let at-loop = c .before .before .before in
     (search needs, at-loop .loop .inv .5 .bits-size ∙ at-loop .loop .inv .3, at-loop .loop .inv .5 .known-size ∙ at-loop .loop .inv .4)
 
--- src/start.rt:40:9
 add-s : tie.Need-add-s Inv-loop μ-loop
 add-s c = search needs
 
--- src/start.rt:38:5
 loop-less : tie.Need-loop-less Inv-loop μ-loop
 loop-less c = search needs
 
--- src/start.rt:38:5
 loop-again : tie.Need-loop-again Inv-loop μ-loop
 loop-again c = (search needs, search needs, search needs, search needs, search needs, filling-more _ _ _ _ _ _ _ _ _ (c .before .before .before .before .loop .inv .5) (c .fill-one .ensures))
 
--- src/start.rt:33:1
 returns : tie.Need-returns Inv-loop μ-loop
 returns c = filling-all _ _ _ _ _ _ _ _ (search needs) (c .before .loop .inv .5)
 

@@ -1,14 +1,12 @@
+-- `network::start::start_marks` meets its contract.
+-- Assumes nothing.
 use borrow.Author.Tests.{eq-eqb, ne-eqb}
 use Rattle.network.proofs.start.start_marks.Statement.{statement}
 use Rattle.network.proofs.start.start_marks.Tie as tie
-use Rattle.network.proofs.start.start_marks.Reads as reads
-use Rattle.network.proofs.start.start_marks.Lts as lts
 
--- src/start.rt:15:9
 returns : tie.Need-returns
 returns c = rw (eq-eqb _ 0 (c .if1 .taken))
 
--- src/start.rt:11:1
 returns-2 : tie.Need-returns-2
 returns-2 c = rw (ne-eqb _ 0 (c .if1 .left))
 

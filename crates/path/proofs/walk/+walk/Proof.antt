@@ -30,7 +30,7 @@ called t = (step-from-reads.Asked, step-from-reads.Learnt, walk-below t, walk.Po
 
 module _ (t : ℕ) where
   returns : walk-lts.Need-returns (called t) (walk-at t) walk.Post
-  returns c = walks-end _ _ _ _ _ _ (c .if1 .taken)
+  returns c = walks-end _ _ _ _ _ _ (c .if1 .taken) (omega (arith, c .before .pre .1 .room))
 
   step-from-requires : walk-lts.Need-step-from-requires (called t) (walk-at t) walk.Post
   step-from-requires c κs = let s = c .before in (omega (arith, s .pre .1 .room), s .pre .1 .safe (s .args .at) (omega (arith, c .if1 .left)) (le-refl (s .args .at)))
@@ -78,6 +78,9 @@ module _ (t : ℕ) where
   enum-told : walk-lts.Need-enum-told (called t) (walk-at t) walk.Post
   enum-told c = search needs
 
+  add-result : walk-lts.Need-add-result (called t) (walk-at t) walk.Post
+  add-result c = omega (arith, c .before .before .before .before .pre .1 .room)
+
   returns-2 : walk-lts.Need-returns-2 (called t) (walk-at t) walk.Post
   returns-2 c = from (c .before .before) .then _ _ (c .walk .ensures)
 
@@ -103,6 +106,7 @@ pub +walk-spec : {M : Type 1} → statement M
     (enum-known-to-2 t)
     (walk-requires-2 t)
     (enum-told t)
+    (add-result t)
     (returns-2 t)
     (returns-3 t)
     (returns-4 t)

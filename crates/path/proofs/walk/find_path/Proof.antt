@@ -8,8 +8,11 @@ use Rattle.path.proofs.walk.find_path.Tie as tie
 walk-requires : tie.Need-walk-requires
 walk-requires c κs = search needs
 
+answer-of-requires : tie.Need-answer-of-requires
+answer-of-requires c κs = search needs
+
 returns : tie.Need-returns
-returns c = found _ _ _ _ _ _ _ (c .before .before .pre) (c .walk .ensures)
+returns c = rw (c .answer-of .ensures) (found _ _ _ _ _ _ _ (c .before .before .before .pre) (c .before .walk .ensures))
 
 pub find-path-spec : {M : Type 1} → statement M
-find-path-spec = tie.close (tie.spec walk-requires returns)
+find-path-spec = tie.close (tie.spec walk-requires answer-of-requires returns)

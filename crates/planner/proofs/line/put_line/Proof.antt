@@ -16,7 +16,7 @@ put-operation-requires : tie.Need-put-operation-requires
 put-operation-requires c κs =
     let first = c .before .before .before in
     let s = first .before .before .before .before in
-    (s .pre .0, operation-room _ (s .pre .1) _ _ (first .put .ensures .0) (search needs))
+    operation-room _ (s .pre) _ _ (first .put .ensures .0) (search needs)
 
 slice-aggregate-put-2 : tie.Need-slice-aggregate-put-2
 slice-aggregate-put-2 c = search needs
@@ -34,7 +34,7 @@ returns c =
     let first = second .before .before .before .before in
     let s = first .before .before .before .before in (
       omega (arith, first .put .ensures .0, second .put-operation .ensures .0, last .ensures .0),
-      line-put _ _ _ _ _ _ _ _ _ (s .pre .1) _ _ _ _ _ (first .put .ensures .0) (first .put .ensures .1) (second .put-operation .ensures .0) (second .put-operation .ensures .1) (last .ensures .1),
+      line-put _ _ _ _ _ _ _ _ _ (s .pre) _ _ _ _ _ (first .put .ensures .0) (first .put .ensures .1) (second .put-operation .ensures .0) (second .put-operation .ensures .1) (last .ensures .1),
     )
 
 pub put-line-spec : {M : Type 1} → statement M

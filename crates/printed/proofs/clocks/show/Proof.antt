@@ -1,10 +1,10 @@
 -- `printed::clocks::show` is safe: a count of clocks says that the plan text has good form and both buffers have room for it.
 -- Assumes nothing.
-use mathlib.Core.Path.{_≡_, sym, ap, _∙_}
+use mathlib.Core.Path.{sym, ap, _∙_}
 use native.Mathlib.Omega.{arith}
 use borrow.Author.Needs.{needs}
 use Rattle.tap.specs.Clocks.{answerOf}
-use Rattle.tap.proofs.Answers.{Wrote, count-says}
+use Rattle.tap.proofs.Answers.{count-says}
 use Rattle.printed.proofs.clocks.show.Statement.{statement}
 use Rattle.printed.proofs.clocks.show.Tie as tie
 

@@ -1,0 +1,31 @@
+-- Laws of the network that the arrays hold: its steering bits and settings by the count k, and the rows written as rows of it.
+-- Assumes nothing.
+use mathlib.Core.Path.{_≡_, sym, ap, _∙_}
+use mathlib.Core.List.{List}
+use Prim.Native.Nat.{ℕ, _^_, _≤_, _<_}
+use native.Mathlib.Omega.{arith}
+use lib.ListN.{length}
+use Rattle.model.specs.Network.{Network, steeringBits}
+use Rattle.network.specs.declared.draft.Tally.{Tally}
+use Rattle.search.specs.Moves.{land}
+use Rattle.search.proofs.MoveLaws.{settings-within, land-within}
+use Rattle.settings.specs.Route.{Prepared}
+use Rattle.settings.specs.Rows.{rowNumber, RowsRight, Lands}
+use Rattle.settings.proofs.Listing.{length-bits}
+
+module _ (net : Network) (ns steering : List ℕ) (t : Tally) (segments places : List ℕ) (k : ℕ) (p : Prepared net ns steering t segments places k) where
+  pub bits-count : length (steeringBits (net .nodes)) ≡ k
+  bits-count = ap length (sym (p .bits-are)) ∙ length-bits segments places k
+
+  pub settings-count : 3 ^ length (steeringBits (net .nodes)) ≡ 3 ^ k
+  settings-count = ap (λ (n : ℕ). 3 ^ n) bits-count
+
+  pub few-settings : 3 ^ length (steeringBits (net .nodes)) ≤ 729
+  few-settings = settings-within (length (steeringBits (net .nodes))) (omega (arith, bits-count, p .few))
+
+  pub lands-small : (x c : ℕ) → land net x c < 729
+  lands-small x c = omega (arith, land-within net x c, few-settings)
+
+  -- a row that is written
+  pub row-lands : (rows : List ℕ) (x : ℕ) → RowsRight ns steering t segments places k rows → x < 729 → rowNumber rows x 0 ≡ 1 → Lands net rows x
+  row-lands rows x right lt known = record { accepted = p .accepted; few = omega (arith, bits-count, p .few); row = right .right net p x lt known }

@@ -1,0 +1,78 @@
+-- What the functions that fill a slot from the layer before it ask and leave.
+-- Assumes nothing.
+use mathlib.Core.Path.{_≡_}
+use mathlib.Core.Bool.{Bool, true, false, _&&_}
+use mathlib.Core.Logic.{_⊎_}
+use mathlib.Core.List.{List}
+use mathlib.Core.Option.{none}
+use Prim.Native.Nat.{ℕ, _/_, _%_, _≤_, _<_}
+use lib.Dec.{ltb}
+use lib.ListN.{length, getD}
+use Rattle.model.specs.Network.{Network}
+use Rattle.path.specs.Layout.{wordBit}
+use Rattle.search.specs.Search.{planUpTo}
+use Rattle.search.specs.Moves.{count, reached, goes, sysOf}
+use Rattle.search.specs.Layers.{Layers, Stepped}
+use Rattle.layers.specs.Table.{inSlot, inSeen, layersOf, Others, Known}
+
+-- slot i and the states met, with each state of P besides that had not been met
+pub record Spread (P : ℕ → Type 0) (i : ℕ) (tab seen tab′ seen′ : List ℕ) : Type 0 where
+  pub came : (s : ℕ) → inSlot tab′ i s ≡ true → (inSlot tab i s ≡ true) ⊎ P s
+  pub covers : (s : ℕ) → P s → inSeen seen′ s ≡ true
+  pub met : (s : ℕ) → inSeen seen′ s ≡ true → (inSeen seen s ≡ true) ⊎ (inSlot tab′ i s ≡ true)
+  pub seen-kept : (s : ℕ) → inSeen seen s ≡ true → inSeen seen′ s ≡ true
+  pub slot-kept : (s : ℕ) → inSlot tab i s ≡ true → inSlot tab′ i s ≡ true
+  pub others : Others i tab tab′
+  pub size : length tab′ ≡ length tab
+  pub seen-size : length seen′ ≡ 729
+
+-- of the table, only slot i may have changed
+pub record OnlySlot (i : ℕ) (tab tab′ seen′ : List ℕ) : Type 0 where
+  pub others : Others i tab tab′
+  pub size : length tab′ ≡ length tab
+  pub seen-size : length seen′ ≡ 729
+
+-- a state of setting y with a set of got
+pub record AtSetting (y got s : ℕ) : Type 0 where
+  pub setting : s / 16 ≡ y
+  pub is : wordBit got (s % 16) ≡ true
+
+-- of a setting that one of n choices leads to
+pub record Arrives (lands : List ℕ) (n got s : ℕ) : Type 0 where
+  pub choice : ℕ
+  pub within : choice < n
+  pub there : AtSetting (getD lands choice 0) got s
+
+-- that an operation leads to from a state of setting x with one of sets
+pub record Leaves (net : Network) (x sets s : ℕ) : Type 0 where
+  pub before : ℕ
+  pub small : before < 16
+  pub is : wordBit sets before ≡ true
+  pub choice : ℕ
+  pub within : choice < count net x
+  pub to-is : goes net x (reached net x before) choice ≡ s
+
+-- that an operation leads to from a state of layer i
+abbrev pub Next : Network → ℕ → List ℕ → ℕ → ℕ → Type 0
+Next net start tab i s = Stepped (sysOf net) (layersOf start tab) i s
+
+-- with each state of P its set of targets is in r
+abbrev pub SetsIn : (ℕ → Type 0) → ℕ → Type 0
+SetsIn P r = (s : ℕ) → P s → wordBit r (s % 16) ≡ true
+
+-- setting x with one of sets is a goal: it is valid, and all targets are reached
+abbrev pub goalWith : Network → ℕ → ℕ → ℕ → Bool
+goalWith net full x sets = wordBit sets full && ltb 0 (count net x)
+
+-- whether slot i has a goal
+pub record GoalIn (net : Network) (tab : List ℕ) (i : ℕ) (r : Bool) : Type 0 where
+  pub some-goal : r ≡ true → (s : ℕ) × (inSlot tab i s ≡ true) × (sysOf net .goal s ≡ true)
+  pub no-goal : r ≡ false → (s : ℕ) → inSlot tab i s ≡ true → sysOf net .goal s ≡ false
+
+-- the first layer with a goal, r; 0 where none up to layer 16 has one
+pub record Met (net : Network) (start : ℕ) (tab : List ℕ) (r : ℕ) : Type 0 where
+  pub most : r ≤ 16
+  pub nothing : r ≡ 0 → planUpTo (sysOf net) 16 start ≡ none
+  pub layers : 0 < r → Layers (sysOf net) start (layersOf start tab) r
+  pub goal : 0 < r → (s : ℕ) × (layersOf start tab r s ≡ true) × (sysOf net .goal s ≡ true)
+  pub known : Known net start tab r

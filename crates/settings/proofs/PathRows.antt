@@ -1,0 +1,64 @@
+-- Laws of the row of a setting with a path: what `write_path` needs for its calls, and the row that it leaves.
+-- Assumes nothing.
+use mathlib.Core.Path.{_≡_, sym, ap, _∙_, subst}
+use mathlib.Core.List.{List, []}
+use Prim.Native.Nat.{ℕ, _-_, _^_, _≤_, _<_, suc}
+use native.Mathlib.Omega.{arith}
+use lib.ListN.{length, getD, take}
+use lib.Seq.{length-take-le, getD-take}
+use Rattle.model.specs.Network.{Network, steeringBits}
+use Rattle.model.specs.Path.{ScanPath, pathOf, pathLength}
+use Rattle.path.specs.Layout.{scanPath}
+use Rattle.network.specs.declared.draft.Tally.{Tally}
+use Rattle.search.specs.Settings.{order, baseOf}
+use Rattle.search.specs.Moves.{maskOf, onPath}
+use Rattle.search.proofs.Order.{order-within}
+use Rattle.search.proofs.MoveLaws.{count-path, gain-path}
+use Rattle.settings.specs.Steering.{bitsOf}
+use Rattle.settings.specs.Route.{PathMarked, Ordered, BaseBy, MaskBy}
+use Rattle.settings.specs.Rows.{Row, Routed, RowOf, PathIs, RowRead}
+use Rattle.settings.proofs.Listing.{length-bits}
+
+-- ---- the order in the array
+
+module _ (segments : List ℕ) (k : ℕ) (way : List ℕ) (n : ℕ) (arr : List ℕ) (m : ℕ) (o : Ordered segments k way n arr m) where
+  order-length : (ns places : List ℕ) → m ≡ length (order (bitsOf segments places k) (scanPath ns (take n way)))
+  order-length ns places = sym (length-take-le m arr (omega (arith, o .most, o .sized))) ∙ ap length (o .lists ns places)
+
+  order-at : (ns places : List ℕ) (i : ℕ) → i < m → getD arr i 0 ≡ getD (order (bitsOf segments places k) (scanPath ns (take n way))) i 0
+  order-at ns places i l = sym (getD-take m arr i 0 l) ∙ ap (λ (js : List ℕ). getD js i 0) (o .lists ns places)
+
+  pub order-small : k ≤ 6 → (i : ℕ) → i < m → getD arr i 0 < 6
+  order-small few i l =
+      omega (arith, order-at [] [] i l, order-within (bitsOf segments [] k) (scanPath [] (take n way)) i (omega (arith, order-length [] [])), length-bits segments [] k)
+
+  -- ---- the row
+
+  module _ (marks : List ℕ) (marked : PathMarked way n marks) (t : Tally) (x width mask base len : ℕ) (wide : width ≡ 2 ^ m) (masked : MaskBy marks t mask) (based : BaseBy marks segments k x base)
+      (old new : List ℕ) (row : Row old x width mask base len arr m new) where
+    row-of : (net : Network) (ns steering : List ℕ) → len ≡ pathLength (scanPath ns (take n way)) → PathIs net ns steering t segments k way n x → RowOf net new x
+    row-of net ns steering long q = record {
+      count-is = row .count-is ∙ wide ∙ ap (λ (i : ℕ). 2 ^ i) many ∙ sym (count-path net x P (q .tells));
+      gain-is = row .gain-is ∙ masked ns P (marked .marked ns) ∙ ap (maskOf (onPath P)) (sym (q .prepared .targets-are)) ∙ sym (gain-path net x P (q .tells));
+      routed = λ p e. subst (Routed net new x) (ap pathOf (sym (q .tells) ∙ e)) routed;
+    }
+      where
+        P : ScanPath
+        P = scanPath ns (take n way)
+
+        many : m ≡ length (order (steeringBits (net .nodes)) P)
+        many = order-length ns (q .places) ∙ ap (λ (sb : List (ℕ × ℕ)). length (order sb P)) (q .prepared .bits-are)
+
+        routed : Routed net new x P
+        routed = record {
+          base-is = row .base-is ∙ based .is P (marked .marked ns) (q .places) ∙ ap (λ (sb : List (ℕ × ℕ)). baseOf sb P x) (q .prepared .bits-are);
+          length-is = row .length-is ∙ long;
+          order-is = λ i l.
+              let z : i < m = omega (arith, many) in
+              row .order-is i z ∙ order-at ns (q .places) (m - suc i) (omega arith)
+              ∙ ap (λ (sb : List (ℕ × ℕ)). getD (order sb P) (m - suc i) 0) (q .prepared .bits-are)
+              ∙ ap (λ (j : ℕ). getD (order (steeringBits (net .nodes)) P) (j - suc i) 0) many;
+        }
+
+    pub row-read : (ns steering : List ℕ) → len ≡ pathLength (scanPath ns (take n way)) → RowRead ns steering t segments k way n x old new
+    row-read ns steering long = record { row = λ net q. row-of net ns steering long q; known = row .known; outside = row .outside; size = row .size }
