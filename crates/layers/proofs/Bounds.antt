@@ -13,7 +13,7 @@ use Rattle.settings.specs.Route.{Prepared}
 use Rattle.settings.specs.Rows.{rowNumber, RowsRight, Lands}
 use Rattle.settings.proofs.Listing.{length-bits}
 
-module _ (net : Network) (ns steering : List ℕ) (t : Tally) (segments places : List ℕ) (k : ℕ) (p : Prepared net ns steering t segments places k) where
+module _ (net : Network) (ns steering : List ℕ) (pb : Problem) (p : Prepared net ns steering pb) where
   pub bits-count : length (steeringBits (net .nodes)) ≡ k
   bits-count = ap length (sym (p .bits-are)) ∙ length-bits segments places k
 
@@ -27,5 +27,5 @@ module _ (net : Network) (ns steering : List ℕ) (t : Tally) (segments places :
   lands-small x c = omega (arith, land-within net x c, few-settings)
 
   -- a row that is written
-  pub row-lands : (rows : List ℕ) (x : ℕ) → RowsRight ns steering t segments places k rows → x < 729 → rowNumber rows x 0 ≡ 1 → Lands net rows x
+  pub row-lands : (rows : List ℕ) (x : ℕ) → RowsRight ns steering pb rows → x < 729 → rowNumber rows x 0 ≡ 1 → Lands net rows x
   row-lands rows x right lt known = record { accepted = p .accepted; few = omega (arith, bits-count, p .few); row = right .right net p x lt known }

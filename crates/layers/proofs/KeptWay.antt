@@ -77,8 +77,8 @@ module _ (net : Network) (start d : ℕ) (tab : List ℕ) (K : Kept net start d 
   abbrev L : ℕ → ℕ → Bool
   L = layersOf start (K .before)
 
-  module _ {ns steering : List ℕ} {t : Tally} {segments places : List ℕ} {k : ℕ} (q : Prepared net ns steering t segments places k)
-      {rows : List ℕ} (right : RowsRight ns steering t segments places k rows) (less-x : x < 729) (known : rowNumber rows x 0 ≡ 1)
+  module _ {ns steering : List ℕ} {pb : Problem} (q : Prepared net ns steering pb)
+      {rows : List ℕ} (right : RowsRight ns steering pb rows) (less-x : x < 729) (known : rowNumber rows x 0 ≡ 1)
       {n : ℕ} {lands : List ℕ} (l : LandsIn rows x n lands) (g : ℕ) (g-is : g ≡ rowNumber rows x 2) (small : m < 16) (lt : i < d)
       (r : ℕ) (f : FirstAt (λ c. wordBit (getD tab (i * 729 + getD lands c 0) 0) (bitOr m g) ≡ true) n r) where
     of : LandsOf net x n lands

@@ -13,16 +13,16 @@ use Rattle.settings.specs.Route.{Prepared, Plannable}
 use Rattle.settings.specs.Rows.{rowNumber, RowsRight, Lands, Landing, LandsIn, LandsOf}
 use Rattle.layers.proofs.Bounds.{lands-small, row-lands}
 
-module _ {net : Network} {ns steering : List ℕ} {t : Tally} {segments places : List ℕ} {k : ℕ} (p : Prepared net ns steering t segments places k) where
+module _ {net : Network} {ns steering : List ℕ} {pb : Problem} (p : Prepared net ns steering pb) where
   pub land-small : (x c : ℕ) → land net x c < 729
-  land-small = lands-small net ns steering t segments places k p
+  land-small = lands-small net ns steering pb p
 
   pub gain-small : (x : ℕ) → gain net x < 16
   gain-small x = gain-within net (p .accepted) x
 
-  module _ {rows : List ℕ} (right : RowsRight ns steering t segments places k rows) (x : ℕ) (small : x < 729) (known : rowNumber rows x 0 ≡ 1) where
+  module _ {rows : List ℕ} (right : RowsRight ns steering pb rows) (x : ℕ) (small : x < 729) (known : rowNumber rows x 0 ≡ 1) where
     pub lands-of : Lands net rows x
-    lands-of = row-lands net ns steering t segments places k p rows x right small known
+    lands-of = row-lands net ns steering pb p rows x right small known
 
     -- the targets on the path
     pub gain-read : (g : ℕ) → g ≡ rowNumber rows x 2 → g ≡ gain net x
@@ -39,6 +39,6 @@ module _ {net : Network} {ns steering : List ℕ} {t : Tally} {segments places :
       pub listed-small : (c : ℕ) → c < r → getD lands c 0 < 729
       listed-small c lt = omega (arith, lands-are .lands-are c lt, land-small x c)
 
-pub landing-of : {ns steering : List ℕ} {t : Tally} {segments places : List ℕ} {k : ℕ} → Plannable ns steering t segments places k
-    → {rows : List ℕ} → RowsRight ns steering t segments places k rows → (x : ℕ) → x < 729 → rowNumber rows x 0 ≡ 1 → Landing rows x
+pub landing-of : {ns steering : List ℕ} {pb : Problem} → Plannable ns steering pb
+    → {rows : List ℕ} → RowsRight ns steering pb rows → (x : ℕ) → x < 729 → rowNumber rows x 0 ≡ 1 → Landing rows x
 landing-of q right x small known = (q .0, lands-of (q .1) right x small known)

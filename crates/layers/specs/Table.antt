@@ -1,8 +1,8 @@
 -- The table of layers in the search space: 16 slots of 729 numbers, one for each setting, each a set of sets of targets. Slot i
--- has the states that i + 1 operations lead to. A state is setting * 16 + targets reached.
+-- has states that i + 1 operations lead to. A state is setting * 16 + targets reached.
 -- Assumes nothing.
 use mathlib.Core.Path.{_≡_}
-use mathlib.Core.Bool.{Bool, true, false, _&&_}
+use mathlib.Core.Bool.{Bool, true, _&&_}
 use mathlib.Core.Logic.{_⊎_}
 use mathlib.Core.List.{List}
 use Prim.Native.Nat.{ℕ, zero, suc, _+_, _*_, _/_, _%_, _^_, _≤_, _<_}
@@ -10,14 +10,6 @@ use lib.Dec.{eqb, ltb}
 use lib.ListN.{length, getD}
 use Rattle.model.specs.Network.{Network, steeringBits}
 use Rattle.path.specs.Layout.{wordBit}
-use Rattle.network.specs.declared.draft.Tally.{Tally}
-use Rattle.search.specs.Moves.{sysOf}
-use Rattle.search.specs.Layers.{Earlier, Layers}
-use Rattle.settings.specs.Route.{Prepared}
-
--- for each network that the arrays hold
-abbrev pub Each : List ℕ → List ℕ → Tally → List ℕ → List ℕ → ℕ → (Network → Type 0) → Type 0
-Each ns steering t segments places k P = (net : Network) → Prepared net ns steering t segments places k → P net
 
 -- state s is in slot i
 abbrev pub inSlot : List ℕ → ℕ → ℕ → Bool
@@ -40,18 +32,14 @@ OutOfSlot i n = (n < i * 729) ⊎ (i * 729 + 729 ≤ n)
 abbrev pub Others : ℕ → List ℕ → List ℕ → Type 0
 Others i old new = (n : ℕ) → OutOfSlot i n → getD new n 0 ≡ getD old n 0
 
--- the settings of slots up to layer d are those of the network
-abbrev pub Known : Network → ℕ → List ℕ → ℕ → Type 0
-Known net start tab d = (j s : ℕ) → j ≤ d → layersOf start tab j s ≡ true → s / 16 < 3 ^ length (steeringBits (net .nodes))
+-- state s is of a setting of the network
+abbrev pub OfSetting : Network → ℕ → Type 0
+OfSetting net s = s / 16 < 3 ^ length (steeringBits (net .nodes))
 
--- and those of slot i
+-- so is each state of slot i
 abbrev pub SlotKnown : Network → List ℕ → ℕ → Type 0
-SlotKnown net tab i = (s : ℕ) → inSlot tab i s ≡ true → s / 16 < 3 ^ length (steeringBits (net .nodes))
+SlotKnown net tab i = (s : ℕ) → inSlot tab i s ≡ true → OfSetting net s
 
--- the search has come to layer i: no layer so far has a goal, and the slots from i on are empty
-pub record Forward (net : Network) (start i : ℕ) (tab seen : List ℕ) : Type 0 where
-  pub layers : Layers (sysOf net) start (layersOf start tab) i
-  pub goalless : (s : ℕ) → layersOf start tab i s ≡ true → sysOf net .goal s ≡ false
-  pub met : (s : ℕ) → inSeen seen s ≡ true → Earlier (layersOf start tab) i s
-  pub known : Known net start tab i
-  pub empty : (j s : ℕ) → i ≤ j → j < 16 → inSlot tab j s ≡ false
+-- and each of layers 0 to d
+abbrev pub Known : Network → ℕ → List ℕ → ℕ → Type 0
+Known net start tab d = (j s : ℕ) → j ≤ d → layersOf start tab j s ≡ true → OfSetting net s

@@ -1,45 +1,43 @@
 // Whether a slot has a goal: a valid setting with all targets reached.
 use crate::sets::has;
-use network::draft::Tally;
 use path::layout::Nodes;
 use path::layout::Words;
+use settings::route::setting_count;
 use settings::rows::COUNT;
 use settings::rows::Rows;
 use settings::rows::know_row;
 use settings::rows::number;
+use settings::steering::Problem;
 ghost use mathlib.Core.Path.{_≡_};
 ghost use mathlib.Core.Bool.{true};
 ghost use Prim.Native.Nat.{ℕ, _^_, _≤_, _<_};
 ghost use lib.ListN.{length};
 ghost use Rattle.search.specs.Moves.{allOf};
-ghost use Rattle.settings.specs.Route.{Plannable};
+ghost use Rattle.settings.specs.Route.{Plannable, Each};
 ghost use Rattle.settings.specs.Rows.{RowsRight};
-ghost use Rattle.layers.specs.Table.{Each, SlotKnown, inSlot};
+ghost use Rattle.layers.specs.Table.{SlotKnown, inSlot};
 ghost use Rattle.layers.specs.Spreading.{SetsIn, goalWith, GoalIn};
 
 // Whether setting x with one of these sets is a goal: it is valid, and all targets are reached.
 fn is_goal<'a>(
     nodes: &'a Nodes,
     steering: &'a Words,
-    t: Tally,
-    segments: &'a [usize; 6],
-    places: &'a [usize; 6],
-    k: usize,
+    problem: Problem,
     rows: &mut Rows,
     full: usize,
     x: usize,
     sets: u16,
 ) -> bool
-    requires { ⌜ Plannable (now nodes) (now steering) t (now segments) (now places) k ⌝ }
-    requires { ⌜ RowsRight (now nodes) (now steering) t (now segments) (now places) k (now rows) ⌝ }
+    requires { ⌜ Plannable (now nodes) (now steering) problem ⌝ }
+    requires { ⌜ RowsRight (now nodes) (now steering) problem (now rows) ⌝ }
     requires { ⌜ (x < 729) × (full < 16) ⌝ }
-    ensures { λ _. ⌜ RowsRight (now (nodes .entry)) (now (steering .entry)) t (now (segments .entry)) (now (places .entry)) k (now (rows .exit)) ⌝ }
-    ensures { λ r. ⌜ Each (now (nodes .entry)) (now (steering .entry)) t (now (segments .entry)) (now (places .entry)) k (λ net. r ≡ goalWith net full x sets) ⌝ }
+    ensures { λ _. ⌜ RowsRight (now (nodes .entry)) (now (steering .entry)) problem (now (rows .exit)) ⌝ }
+    ensures { λ r. ⌜ Each (now (nodes .entry)) (now (steering .entry)) problem (λ net. r ≡ goalWith net full x sets) ⌝ }
 {
     if !has(sets, full) {
         return false;
     }
-    know_row(nodes, steering, t, segments, places, k, x, rows);
+    know_row(nodes, steering, problem, x, rows);
     0 < number(rows, x, COUNT)
 }
 
@@ -47,27 +45,23 @@ fn is_goal<'a>(
 fn has_goal<'a>(
     nodes: &'a Nodes,
     steering: &'a Words,
-    t: Tally,
-    segments: &'a [usize; 6],
-    places: &'a [usize; 6],
-    k: usize,
+    problem: Problem,
     rows: &mut Rows,
     full: usize,
-    end: usize,
     table: &[u16],
     i: usize,
 ) -> bool
-    requires { ⌜ Plannable (now nodes) (now steering) t (now segments) (now places) k ⌝ }
-    requires { ⌜ RowsRight (now nodes) (now steering) t (now segments) (now places) k (now rows) ⌝ }
+    requires { ⌜ Plannable (now nodes) (now steering) problem ⌝ }
+    requires { ⌜ RowsRight (now nodes) (now steering) problem (now rows) ⌝ }
     requires { ⌜ (11664 ≤ length (now table)) × (full < 16) × (i < 16) ⌝ }
-    requires { ⌜ (end ≡ 3 ^ k) × (end ≤ 729) ⌝ }
-    ensures { λ _. ⌜ RowsRight (now (nodes .entry)) (now (steering .entry)) t (now (segments .entry)) (now (places .entry)) k (now (rows .exit)) ⌝ }
-    ensures { λ r. ⌜ Each (now (nodes .entry)) (now (steering .entry)) t (now (segments .entry)) (now (places .entry)) k (λ net. full ≡ allOf (net .targets) → SlotKnown net (now (table .entry)) i → GoalIn net (now (table .entry)) i r) ⌝ }
+    ensures { λ _. ⌜ RowsRight (now (nodes .entry)) (now (steering .entry)) problem (now (rows .exit)) ⌝ }
+    ensures { λ r. ⌜ Each (now (nodes .entry)) (now (steering .entry)) problem (λ net. full ≡ allOf (net .targets) → SlotKnown net (now (table .entry)) i → GoalIn net (now (table .entry)) i r) ⌝ }
 {
+    let end = setting_count(problem.width);
     let mut x: usize = 0;
     while x < end {
         let sets = table[i * 729 + x];
-        if is_goal(nodes, steering, t, segments, places, k, rows, full, x, sets) {
+        if is_goal(nodes, steering, problem, rows, full, x, sets) {
             return true;
         }
         x += 1;
@@ -79,38 +73,21 @@ fn has_goal<'a>(
 pub fn meets_goal<'a>(
     nodes: &'a Nodes,
     steering: &'a Words,
-    t: Tally,
-    segments: &'a [usize; 6],
-    places: &'a [usize; 6],
-    k: usize,
+    problem: Problem,
     rows: &mut Rows,
     full: usize,
-    end: usize,
     table: &[u16],
     i: usize,
     came: u16,
 ) -> bool
-    requires { ⌜ Plannable (now nodes) (now steering) t (now segments) (now places) k ⌝ }
-    requires { ⌜ RowsRight (now nodes) (now steering) t (now segments) (now places) k (now rows) ⌝ }
+    requires { ⌜ Plannable (now nodes) (now steering) problem ⌝ }
+    requires { ⌜ RowsRight (now nodes) (now steering) problem (now rows) ⌝ }
     requires { ⌜ (11664 ≤ length (now table)) × (full < 16) × (i < 16) ⌝ }
-    requires { ⌜ (end ≡ 3 ^ k) × (end ≤ 729) ⌝ }
-    ensures { λ _. ⌜ RowsRight (now (nodes .entry)) (now (steering .entry)) t (now (segments .entry)) (now (places .entry)) k (now (rows .exit)) ⌝ }
-    ensures { λ r. ⌜ Each (now (nodes .entry)) (now (steering .entry)) t (now (segments .entry)) (now (places .entry)) k (λ net. full ≡ allOf (net .targets) → SlotKnown net (now (table .entry)) i → SetsIn (λ (s : ℕ). inSlot (now (table .entry)) i s ≡ true) came → GoalIn net (now (table .entry)) i r) ⌝ }
+    ensures { λ _. ⌜ RowsRight (now (nodes .entry)) (now (steering .entry)) problem (now (rows .exit)) ⌝ }
+    ensures { λ r. ⌜ Each (now (nodes .entry)) (now (steering .entry)) problem (λ net. full ≡ allOf (net .targets) → SlotKnown net (now (table .entry)) i → SetsIn (λ (s : ℕ). inSlot (now (table .entry)) i s ≡ true) came → GoalIn net (now (table .entry)) i r) ⌝ }
 {
     if !has(came, full) {
         return false;
     }
-    has_goal(
-        nodes,
-        steering,
-        t,
-        segments,
-        places,
-        k,
-        rows,
-        full,
-        end,
-        table,
-        i,
-    )
+    has_goal(nodes, steering, problem, rows, full, table, i)
 }

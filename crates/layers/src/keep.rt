@@ -2,11 +2,10 @@
 use crate::sets::has;
 use crate::sets::kept;
 use crate::sets::only;
-use crate::spread::setting_count;
-use network::draft::Tally;
 use path::layout::Nodes;
 use path::layout::Words;
 use path::layout::wide;
+use settings::route::setting_count;
 use settings::rows::COUNT;
 use settings::rows::GAIN;
 use settings::rows::Lands;
@@ -14,13 +13,14 @@ use settings::rows::Rows;
 use settings::rows::know_row;
 use settings::rows::list_lands;
 use settings::rows::number;
+use settings::steering::Problem;
 ghost use mathlib.Core.Path.{_≡_};
 ghost use Prim.Native.Nat.{ℕ, _+_, _*_, _^_, _≤_, _<_};
 ghost use lib.ListN.{length, getD};
 ghost use Rattle.search.specs.Moves.{allOf, sysOf};
-ghost use Rattle.settings.specs.Route.{Plannable};
+ghost use Rattle.settings.specs.Route.{Plannable, Each};
 ghost use Rattle.settings.specs.Rows.{RowsRight};
-ghost use Rattle.layers.specs.Table.{Each, SlotKnown};
+ghost use Rattle.layers.specs.Table.{SlotKnown};
 ghost use Rattle.layers.specs.Spreading.{Met};
 ghost use Rattle.layers.specs.Keeping.{Filtered, FilteredSets, enters, UnionOf, Useful};
 ghost use Rattle.layers.specs.Plans.{Starts};
@@ -29,25 +29,22 @@ ghost use Rattle.layers.specs.Plans.{Starts};
 fn goal_sets<'a>(
     nodes: &'a Nodes,
     steering: &'a Words,
-    t: Tally,
-    segments: &'a [usize; 6],
-    places: &'a [usize; 6],
-    k: usize,
+    problem: Problem,
     rows: &mut Rows,
     full: usize,
     x: usize,
     sets: u16,
 ) -> u16
-    requires { ⌜ Plannable (now nodes) (now steering) t (now segments) (now places) k ⌝ }
-    requires { ⌜ RowsRight (now nodes) (now steering) t (now segments) (now places) k (now rows) ⌝ }
+    requires { ⌜ Plannable (now nodes) (now steering) problem ⌝ }
+    requires { ⌜ RowsRight (now nodes) (now steering) problem (now rows) ⌝ }
     requires { ⌜ (x < 729) × (full < 16) ⌝ }
-    ensures { λ _. ⌜ RowsRight (now (nodes .entry)) (now (steering .entry)) t (now (segments .entry)) (now (places .entry)) k (now (rows .exit)) ⌝ }
-    ensures { λ r. ⌜ Each (now (nodes .entry)) (now (steering .entry)) t (now (segments .entry)) (now (places .entry)) k (λ net. full ≡ allOf (net .targets) → FilteredSets (sysOf net .goal) x sets r) ⌝ }
+    ensures { λ _. ⌜ RowsRight (now (nodes .entry)) (now (steering .entry)) problem (now (rows .exit)) ⌝ }
+    ensures { λ r. ⌜ Each (now (nodes .entry)) (now (steering .entry)) problem (λ net. full ≡ allOf (net .targets) → FilteredSets (sysOf net .goal) x sets r) ⌝ }
 {
     if !has(sets, full) {
         return 0;
     }
-    know_row(nodes, steering, t, segments, places, k, x, rows);
+    know_row(nodes, steering, problem, x, rows);
     if number(rows, x, COUNT) == 0 {
         return 0;
     }
@@ -58,38 +55,23 @@ fn goal_sets<'a>(
 fn keep_goals<'a>(
     nodes: &'a Nodes,
     steering: &'a Words,
-    t: Tally,
-    segments: &'a [usize; 6],
-    places: &'a [usize; 6],
-    k: usize,
+    problem: Problem,
     rows: &mut Rows,
     full: usize,
-    end: usize,
     table: &mut [u16],
     i: usize,
 )
-    requires { ⌜ Plannable (now nodes) (now steering) t (now segments) (now places) k ⌝ }
-    requires { ⌜ RowsRight (now nodes) (now steering) t (now segments) (now places) k (now rows) ⌝ }
+    requires { ⌜ Plannable (now nodes) (now steering) problem ⌝ }
+    requires { ⌜ RowsRight (now nodes) (now steering) problem (now rows) ⌝ }
     requires { ⌜ (11664 ≤ length (now table)) × (full < 16) × (i < 16) ⌝ }
-    requires { ⌜ (end ≡ 3 ^ k) × (end ≤ 729) ⌝ }
-    ensures { λ _. ⌜ RowsRight (now (nodes .entry)) (now (steering .entry)) t (now (segments .entry)) (now (places .entry)) k (now (rows .exit)) ⌝ }
-    ensures { λ _. ⌜ Each (now (nodes .entry)) (now (steering .entry)) t (now (segments .entry)) (now (places .entry)) k (λ net. full ≡ allOf (net .targets) → SlotKnown net (now (table .entry)) i → Filtered (sysOf net .goal) i (now (table .entry)) (now (table .exit))) ⌝ }
+    ensures { λ _. ⌜ RowsRight (now (nodes .entry)) (now (steering .entry)) problem (now (rows .exit)) ⌝ }
+    ensures { λ _. ⌜ Each (now (nodes .entry)) (now (steering .entry)) problem (λ net. full ≡ allOf (net .targets) → SlotKnown net (now (table .entry)) i → Filtered (sysOf net .goal) i (now (table .entry)) (now (table .exit))) ⌝ }
 {
+    let end = setting_count(problem.width);
     let mut x: usize = 0;
     while x < end {
         let sets = table[i * 729 + x];
-        table[i * 729 + x] = goal_sets(
-            nodes,
-            steering,
-            t,
-            segments,
-            places,
-            k,
-            rows,
-            full,
-            x,
-            sets,
-        );
+        table[i * 729 + x] = goal_sets(nodes, steering, problem, rows, full, x, sets);
         x += 1;
     }
 }
@@ -113,23 +95,20 @@ fn union_of(table: &[u16], i: usize, lands: &Lands, n: usize) -> u16
 fn useful_sets<'a>(
     nodes: &'a Nodes,
     steering: &'a Words,
-    t: Tally,
-    segments: &'a [usize; 6],
-    places: &'a [usize; 6],
-    k: usize,
+    problem: Problem,
     rows: &mut Rows,
     x: usize,
     sets: u16,
     table: &[u16],
     i: usize,
 ) -> u16
-    requires { ⌜ Plannable (now nodes) (now steering) t (now segments) (now places) k ⌝ }
-    requires { ⌜ RowsRight (now nodes) (now steering) t (now segments) (now places) k (now rows) ⌝ }
+    requires { ⌜ Plannable (now nodes) (now steering) problem ⌝ }
+    requires { ⌜ RowsRight (now nodes) (now steering) problem (now rows) ⌝ }
     requires { ⌜ (11664 ≤ length (now table)) × (x < 729) × (i < 16) ⌝ }
-    ensures { λ _. ⌜ RowsRight (now (nodes .entry)) (now (steering .entry)) t (now (segments .entry)) (now (places .entry)) k (now (rows .exit)) ⌝ }
-    ensures { λ r. ⌜ Each (now (nodes .entry)) (now (steering .entry)) t (now (segments .entry)) (now (places .entry)) k (λ net. FilteredSets (enters net (now (table .entry)) i) x sets r) ⌝ }
+    ensures { λ _. ⌜ RowsRight (now (nodes .entry)) (now (steering .entry)) problem (now (rows .exit)) ⌝ }
+    ensures { λ r. ⌜ Each (now (nodes .entry)) (now (steering .entry)) problem (λ net. FilteredSets (enters net (now (table .entry)) i) x sets r) ⌝ }
 {
-    know_row(nodes, steering, t, segments, places, k, x, rows);
+    know_row(nodes, steering, problem, x, rows);
     let mut lands: Lands = [0; 64];
     let n = list_lands(rows, x, &mut lands);
     let all = union_of(table, i, &lands, n);
@@ -140,39 +119,23 @@ fn useful_sets<'a>(
 fn keep_useful<'a>(
     nodes: &'a Nodes,
     steering: &'a Words,
-    t: Tally,
-    segments: &'a [usize; 6],
-    places: &'a [usize; 6],
-    k: usize,
+    problem: Problem,
     rows: &mut Rows,
-    end: usize,
     table: &mut [u16],
     i: usize,
 )
-    requires { ⌜ Plannable (now nodes) (now steering) t (now segments) (now places) k ⌝ }
-    requires { ⌜ RowsRight (now nodes) (now steering) t (now segments) (now places) k (now rows) ⌝ }
+    requires { ⌜ Plannable (now nodes) (now steering) problem ⌝ }
+    requires { ⌜ RowsRight (now nodes) (now steering) problem (now rows) ⌝ }
     requires { ⌜ (11664 ≤ length (now table)) × (i < 15) ⌝ }
-    requires { ⌜ (end ≡ 3 ^ k) × (end ≤ 729) ⌝ }
-    ensures { λ _. ⌜ RowsRight (now (nodes .entry)) (now (steering .entry)) t (now (segments .entry)) (now (places .entry)) k (now (rows .exit)) ⌝ }
-    ensures { λ _. ⌜ Each (now (nodes .entry)) (now (steering .entry)) t (now (segments .entry)) (now (places .entry)) k (λ net. SlotKnown net (now (table .entry)) i → Filtered (enters net (now (table .entry)) (i + 1)) i (now (table .entry)) (now (table .exit))) ⌝ }
+    ensures { λ _. ⌜ RowsRight (now (nodes .entry)) (now (steering .entry)) problem (now (rows .exit)) ⌝ }
+    ensures { λ _. ⌜ Each (now (nodes .entry)) (now (steering .entry)) problem (λ net. SlotKnown net (now (table .entry)) i → Filtered (enters net (now (table .entry)) (i + 1)) i (now (table .entry)) (now (table .exit))) ⌝ }
 {
+    let end = setting_count(problem.width);
     let mut x: usize = 0;
     while x < end {
         let sets = table[i * 729 + x];
         if sets != 0 {
-            table[i * 729 + x] = useful_sets(
-                nodes,
-                steering,
-                t,
-                segments,
-                places,
-                k,
-                rows,
-                x,
-                sets,
-                table,
-                i + 1,
-            );
+            table[i * 729 + x] = useful_sets(nodes, steering, problem, rows, x, sets, table, i + 1);
         }
         x += 1;
     }
@@ -182,39 +145,23 @@ fn keep_useful<'a>(
 pub fn keep_all<'a>(
     nodes: &'a Nodes,
     steering: &'a Words,
-    t: Tally,
-    segments: &'a [usize; 6],
-    places: &'a [usize; 6],
-    k: usize,
+    problem: Problem,
     rows: &mut Rows,
     start: usize,
     full: usize,
     table: &mut [u16],
     d: usize,
 )
-    requires { ⌜ Plannable (now nodes) (now steering) t (now segments) (now places) k ⌝ }
-    requires { ⌜ RowsRight (now nodes) (now steering) t (now segments) (now places) k (now rows) ⌝ }
+    requires { ⌜ Plannable (now nodes) (now steering) problem ⌝ }
+    requires { ⌜ RowsRight (now nodes) (now steering) problem (now rows) ⌝ }
     requires { ⌜ (11664 ≤ length (now table)) × (full < 16) × (1 ≤ d) × (d ≤ 16) ⌝ }
-    ensures { λ _. ⌜ RowsRight (now (nodes .entry)) (now (steering .entry)) t (now (segments .entry)) (now (places .entry)) k (now (rows .exit)) ⌝ }
-    ensures { λ _. ⌜ Each (now (nodes .entry)) (now (steering .entry)) t (now (segments .entry)) (now (places .entry)) k (λ net. Starts net start full → Met net (start * 16) (now (table .entry)) d → Useful net (start * 16) d (now (table .entry)) (now (table .exit))) ⌝ }
+    ensures { λ _. ⌜ RowsRight (now (nodes .entry)) (now (steering .entry)) problem (now (rows .exit)) ⌝ }
+    ensures { λ _. ⌜ Each (now (nodes .entry)) (now (steering .entry)) problem (λ net. Starts net start full → Met net (start * 16) (now (table .entry)) d → Useful net (start * 16) d (now (table .entry)) (now (table .exit))) ⌝ }
 {
-    let end = setting_count(k);
     let mut i = d - 1;
-    keep_goals(
-        nodes,
-        steering,
-        t,
-        segments,
-        places,
-        k,
-        rows,
-        full,
-        end,
-        table,
-        i,
-    );
+    keep_goals(nodes, steering, problem, rows, full, table, i);
     while 0 < i {
         i -= 1;
-        keep_useful(nodes, steering, t, segments, places, k, rows, end, table, i);
+        keep_useful(nodes, steering, problem, rows, table, i);
     }
 }

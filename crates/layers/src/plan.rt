@@ -2,17 +2,16 @@
 use crate::keep::keep_all;
 use crate::spread::find_layer;
 use crate::trace::trace;
-use network::draft::Tally;
 use path::layout::Nodes;
 use path::layout::Words;
 use settings::rows::Rows;
+use settings::steering::Problem;
 ghost use mathlib.Core.Path.{_≡_};
 ghost use Prim.Native.Nat.{_≤_, _<_};
 ghost use lib.ListN.{length, replicate};
 ghost use Rattle.model.specs.Calls.{writeOver, searchEntries};
-ghost use Rattle.settings.specs.Route.{Plannable};
+ghost use Rattle.settings.specs.Route.{Plannable, Each};
 ghost use Rattle.settings.specs.Rows.{RowsRight};
-ghost use Rattle.layers.specs.Table.{Each};
 ghost use Rattle.layers.specs.Plans.{Starts, PlanFound};
 
 pub enum Found {
@@ -38,67 +37,29 @@ pub fn clear(table: &mut [u16])
 pub fn find_plan<'a>(
     nodes: &'a Nodes,
     steering: &'a Words,
-    t: Tally,
-    segments: &'a [usize; 6],
-    places: &'a [usize; 6],
-    k: usize,
+    problem: Problem,
     rows: &mut Rows,
     start: usize,
     full: usize,
     table: &mut [u16],
     out: &mut [u8],
 ) -> Found
-    requires { ⌜ Plannable (now nodes) (now steering) t (now segments) (now places) k ⌝ }
-    requires { ⌜ RowsRight (now nodes) (now steering) t (now segments) (now places) k (now rows) ⌝ }
+    requires { ⌜ Plannable (now nodes) (now steering) problem ⌝ }
+    requires { ⌜ RowsRight (now nodes) (now steering) problem (now rows) ⌝ }
     requires { ⌜ (11664 ≤ length (now table)) × (start < 729) × (full < 16) × (16 ≤ length (now out)) ⌝ }
-    requires { ⌜ Each (now nodes) (now steering) t (now segments) (now places) k (λ net. Starts net start full) ⌝ }
-    ensures { λ _. ⌜ RowsRight (now (nodes .entry)) (now (steering .entry)) t (now (segments .entry)) (now (places .entry)) k (now (rows .exit)) ⌝ }
-    ensures { λ r. ⌜ Each (now (nodes .entry)) (now (steering .entry)) t (now (segments .entry)) (now (places .entry)) k (λ net. PlanFound net start (now (out .entry)) r (now (out .exit))) ⌝ }
+    requires { ⌜ Each (now nodes) (now steering) problem (λ net. Starts net start full) ⌝ }
+    ensures { λ _. ⌜ RowsRight (now (nodes .entry)) (now (steering .entry)) problem (now (rows .exit)) ⌝ }
+    ensures { λ r. ⌜ Each (now (nodes .entry)) (now (steering .entry)) problem (λ net. PlanFound net start (now (out .entry)) r (now (out .exit))) ⌝ }
     ensures { λ _. ⌜ now (table .exit) ≡ writeOver (replicate searchEntries 0) (now (table .entry)) ⌝ }
 {
     clear(table);
-    let d = find_layer(
-        nodes,
-        steering,
-        t,
-        segments,
-        places,
-        k,
-        rows,
-        start,
-        full,
-        table,
-    );
+    let d = find_layer(nodes, steering, problem, rows, start, full, table);
     if d == 0 {
         clear(table);
         return Found::Nothing;
     }
-    keep_all(
-        nodes,
-        steering,
-        t,
-        segments,
-        places,
-        k,
-        rows,
-        start,
-        full,
-        table,
-        d,
-    );
-    trace(
-        nodes,
-        steering,
-        t,
-        segments,
-        places,
-        k,
-        rows,
-        start,
-        table,
-        d,
-        out,
-    );
+    keep_all(nodes, steering, problem, rows, start, full, table, d);
+    trace(nodes, steering, problem, rows, start, table, d, out);
     clear(table);
     Found::Operations(d)
 }

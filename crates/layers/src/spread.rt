@@ -2,23 +2,23 @@
 // layer with a goal. A setting's row is written when the search first needs it.
 use crate::goals::meets_goal;
 use crate::sets::joined;
-use network::draft::Tally;
 use path::layout::Nodes;
 use path::layout::Words;
 use path::layout::wide;
-use settings::route::power_of_3;
+use settings::route::setting_count;
 use settings::rows::GAIN;
 use settings::rows::Lands;
 use settings::rows::Rows;
 use settings::rows::know_row;
 use settings::rows::list_lands;
 use settings::rows::number;
+use settings::steering::Problem;
 ghost use mathlib.Core.Path.{_≡_};
 ghost use Prim.Native.Nat.{ℕ, _*_, _^_, _≤_, _<_};
 ghost use lib.ListN.{length, getD};
-ghost use Rattle.settings.specs.Route.{Plannable};
+ghost use Rattle.settings.specs.Route.{Plannable, Each};
 ghost use Rattle.settings.specs.Rows.{RowsRight};
-ghost use Rattle.layers.specs.Table.{Each, Known};
+ghost use Rattle.layers.specs.Table.{Known};
 ghost use Rattle.layers.specs.Spreading.{Spread, OnlySlot, AtSetting, Arrives, Leaves, Next, SetsIn, Met};
 ghost use Rattle.layers.specs.Plans.{Starts};
 
@@ -57,10 +57,7 @@ fn spread_choices(table: &mut [u16], seen: &mut Seen, lands: &Lands, n: usize, g
 fn spread_setting<'a>(
     nodes: &'a Nodes,
     steering: &'a Words,
-    t: Tally,
-    segments: &'a [usize; 6],
-    places: &'a [usize; 6],
-    k: usize,
+    problem: Problem,
     rows: &mut Rows,
     x: usize,
     sets: u16,
@@ -68,14 +65,14 @@ fn spread_setting<'a>(
     seen: &mut Seen,
     i: usize,
 ) -> u16
-    requires { ⌜ Plannable (now nodes) (now steering) t (now segments) (now places) k ⌝ }
-    requires { ⌜ RowsRight (now nodes) (now steering) t (now segments) (now places) k (now rows) ⌝ }
+    requires { ⌜ Plannable (now nodes) (now steering) problem ⌝ }
+    requires { ⌜ RowsRight (now nodes) (now steering) problem (now rows) ⌝ }
     requires { ⌜ (11664 ≤ length (now table)) × (length (now seen) ≡ 729) × (x < 729) × (i < 16) ⌝ }
-    ensures { λ _. ⌜ RowsRight (now (nodes .entry)) (now (steering .entry)) t (now (segments .entry)) (now (places .entry)) k (now (rows .exit)) ⌝ }
-    ensures { λ _. ⌜ Each (now (nodes .entry)) (now (steering .entry)) t (now (segments .entry)) (now (places .entry)) k (λ net. Spread (Leaves net x sets) i (now (table .entry)) (now (seen .entry)) (now (table .exit)) (now (seen .exit))) ⌝ }
-    ensures { λ r. ⌜ Each (now (nodes .entry)) (now (steering .entry)) t (now (segments .entry)) (now (places .entry)) k (λ net. SetsIn (Leaves net x sets) r) ⌝ }
+    ensures { λ _. ⌜ RowsRight (now (nodes .entry)) (now (steering .entry)) problem (now (rows .exit)) ⌝ }
+    ensures { λ _. ⌜ Each (now (nodes .entry)) (now (steering .entry)) problem (λ net. Spread (Leaves net x sets) i (now (table .entry)) (now (seen .entry)) (now (table .exit)) (now (seen .exit))) ⌝ }
+    ensures { λ r. ⌜ Each (now (nodes .entry)) (now (steering .entry)) problem (λ net. SetsIn (Leaves net x sets) r) ⌝ }
 {
-    know_row(nodes, steering, t, segments, places, k, x, rows);
+    know_row(nodes, steering, problem, x, rows);
     let mut lands: Lands = [0; 64];
     let n = list_lands(rows, x, &mut lands);
     let got = joined(sets, number(rows, x, GAIN));
@@ -88,61 +85,31 @@ fn spread_setting<'a>(
 fn spread_layer<'a>(
     nodes: &'a Nodes,
     steering: &'a Words,
-    t: Tally,
-    segments: &'a [usize; 6],
-    places: &'a [usize; 6],
-    k: usize,
+    problem: Problem,
     rows: &mut Rows,
     start: usize,
-    end: usize,
     table: &mut [u16],
     seen: &mut Seen,
     i: usize,
 ) -> u16
-    requires { ⌜ Plannable (now nodes) (now steering) t (now segments) (now places) k ⌝ }
-    requires { ⌜ RowsRight (now nodes) (now steering) t (now segments) (now places) k (now rows) ⌝ }
+    requires { ⌜ Plannable (now nodes) (now steering) problem ⌝ }
+    requires { ⌜ RowsRight (now nodes) (now steering) problem (now rows) ⌝ }
     requires { ⌜ (11664 ≤ length (now table)) × (length (now seen) ≡ 729) × (start < 729) × (i < 16) ⌝ }
-    requires { ⌜ (end ≡ 3 ^ k) × (end ≤ 729) ⌝ }
-    ensures { λ _. ⌜ RowsRight (now (nodes .entry)) (now (steering .entry)) t (now (segments .entry)) (now (places .entry)) k (now (rows .exit)) ⌝ }
+    ensures { λ _. ⌜ RowsRight (now (nodes .entry)) (now (steering .entry)) problem (now (rows .exit)) ⌝ }
     ensures { λ _. ⌜ OnlySlot i (now (table .entry)) (now (table .exit)) (now (seen .exit)) ⌝ }
-    ensures { λ _. ⌜ Each (now (nodes .entry)) (now (steering .entry)) t (now (segments .entry)) (now (places .entry)) k (λ net. Known net (start * 16) (now (table .entry)) i → Spread (Next net (start * 16) (now (table .entry)) i) i (now (table .entry)) (now (seen .entry)) (now (table .exit)) (now (seen .exit))) ⌝ }
-    ensures { λ r. ⌜ Each (now (nodes .entry)) (now (steering .entry)) t (now (segments .entry)) (now (places .entry)) k (λ net. Known net (start * 16) (now (table .entry)) i → SetsIn (Next net (start * 16) (now (table .entry)) i) r) ⌝ }
+    ensures { λ _. ⌜ Each (now (nodes .entry)) (now (steering .entry)) problem (λ net. Known net (start * 16) (now (table .entry)) i → Spread (Next net (start * 16) (now (table .entry)) i) i (now (table .entry)) (now (seen .entry)) (now (table .exit)) (now (seen .exit))) ⌝ }
+    ensures { λ r. ⌜ Each (now (nodes .entry)) (now (steering .entry)) problem (λ net. Known net (start * 16) (now (table .entry)) i → SetsIn (Next net (start * 16) (now (table .entry)) i) r) ⌝ }
 {
     if i == 0 {
-        return spread_setting(
-            nodes,
-            steering,
-            t,
-            segments,
-            places,
-            k,
-            rows,
-            start,
-            1,
-            table,
-            seen,
-            i,
-        );
+        return spread_setting(nodes, steering, problem, rows, start, 1, table, seen, i);
     }
+    let end = setting_count(problem.width);
     let mut all: u16 = 0;
     let mut x: usize = 0;
     while x < end {
         let sets = table[(i - 1) * 729 + x];
         if sets != 0 {
-            let got = spread_setting(
-                nodes,
-                steering,
-                t,
-                segments,
-                places,
-                k,
-                rows,
-                x,
-                sets,
-                table,
-                seen,
-                i,
-            );
+            let got = spread_setting(nodes, steering, problem, rows, x, sets, table, seen, i);
             all = all | got;
         }
         x += 1;
@@ -150,74 +117,33 @@ fn spread_layer<'a>(
     all
 }
 
-// The count of settings of k steering bits.
-pub fn setting_count(k: usize) -> usize
-    requires { ⌜ k ≤ 6 ⌝ }
-    ensures { λ r. ⌜ (r ≡ 3 ^ k) × (r ≤ 729) ⌝ }
-{
-    if k == 6 {
-        return 729;
-    }
-    power_of_3(k)
-}
-
 // Layer after layer from the start, until one has a goal: its number, or 0 where none of 16 has one. The table is empty before.
 pub fn find_layer<'a>(
     nodes: &'a Nodes,
     steering: &'a Words,
-    t: Tally,
-    segments: &'a [usize; 6],
-    places: &'a [usize; 6],
-    k: usize,
+    problem: Problem,
     rows: &mut Rows,
     start: usize,
     full: usize,
     table: &mut [u16],
 ) -> usize
-    requires { ⌜ Plannable (now nodes) (now steering) t (now segments) (now places) k ⌝ }
-    requires { ⌜ RowsRight (now nodes) (now steering) t (now segments) (now places) k (now rows) ⌝ }
+    requires { ⌜ Plannable (now nodes) (now steering) problem ⌝ }
+    requires { ⌜ RowsRight (now nodes) (now steering) problem (now rows) ⌝ }
     requires { ⌜ (11664 ≤ length (now table)) × ((n : ℕ) → n < 11664 → getD (now table) n 0 ≡ 0) ⌝ }
     requires { ⌜ (start < 729) × (full < 16) ⌝ }
-    ensures { λ _. ⌜ RowsRight (now (nodes .entry)) (now (steering .entry)) t (now (segments .entry)) (now (places .entry)) k (now (rows .exit)) ⌝ }
+    ensures { λ _. ⌜ RowsRight (now (nodes .entry)) (now (steering .entry)) problem (now (rows .exit)) ⌝ }
     ensures { λ _. ⌜ (length (now (table .exit)) ≡ length (now (table .entry))) × ((n : ℕ) → 11664 ≤ n → getD (now (table .exit)) n 0 ≡ getD (now (table .entry)) n 0) ⌝ }
-    ensures { λ r. ⌜ Each (now (nodes .entry)) (now (steering .entry)) t (now (segments .entry)) (now (places .entry)) k (λ net. Starts net start full → Met net (start * 16) (now (table .exit)) r) ⌝ }
+    ensures { λ r. ⌜ Each (now (nodes .entry)) (now (steering .entry)) problem (λ net. Starts net start full → Met net (start * 16) (now (table .exit)) r) ⌝ }
 {
     let mut seen: Seen = [0; 729];
     seen[start] = 1;
-    let end = setting_count(k);
     let mut i: usize = 0;
     while i < 16 {
-        let came = spread_layer(
-            nodes,
-            steering,
-            t,
-            segments,
-            places,
-            k,
-            rows,
-            start,
-            end,
-            table,
-            &mut seen,
-            i,
-        );
+        let came = spread_layer(nodes, steering, problem, rows, start, table, &mut seen, i);
         if came == 0 {
             return 0;
         }
-        if meets_goal(
-            nodes,
-            steering,
-            t,
-            segments,
-            places,
-            k,
-            rows,
-            full,
-            end,
-            table,
-            i,
-            came,
-        ) {
+        if meets_goal(nodes, steering, problem, rows, full, table, i, came) {
             return i + 1;
         }
         i += 1;

@@ -1,6 +1,5 @@
 // The way along the states kept: at each the first choice that leads to one of the next layer.
 use crate::sets::has;
-use network::draft::Tally;
 use path::layout::Nodes;
 use path::layout::Words;
 use path::layout::wide;
@@ -10,15 +9,15 @@ use settings::rows::Rows;
 use settings::rows::know_row;
 use settings::rows::list_lands;
 use settings::rows::number;
+use settings::steering::Problem;
 ghost use mathlib.Core.Path.{_≡_};
 ghost use mathlib.Core.Bool.{true};
 ghost use Prim.Native.Nat.{ℕ, _+_, _*_, _≤_, _<_};
 ghost use lib.ListN.{length, getD};
 ghost use Rattle.path.specs.Layout.{wordBit};
 ghost use Rattle.search.specs.Search.{FirstAt};
-ghost use Rattle.settings.specs.Route.{Plannable};
+ghost use Rattle.settings.specs.Route.{Plannable, Each};
 ghost use Rattle.settings.specs.Rows.{RowsRight};
-ghost use Rattle.layers.specs.Table.{Each};
 ghost use Rattle.layers.specs.Keeping.{Kept};
 ghost use Rattle.layers.specs.Plans.{PlanTraced};
 
@@ -42,28 +41,25 @@ fn first_choice(table: &[u16], i: usize, lands: &Lands, n: usize, got: usize) ->
 pub fn trace<'a>(
     nodes: &'a Nodes,
     steering: &'a Words,
-    t: Tally,
-    segments: &'a [usize; 6],
-    places: &'a [usize; 6],
-    k: usize,
+    problem: Problem,
     rows: &mut Rows,
     start: usize,
     table: &'a [u16],
     d: usize,
     out: &mut [u8],
 )
-    requires { ⌜ Plannable (now nodes) (now steering) t (now segments) (now places) k ⌝ }
-    requires { ⌜ RowsRight (now nodes) (now steering) t (now segments) (now places) k (now rows) ⌝ }
+    requires { ⌜ Plannable (now nodes) (now steering) problem ⌝ }
+    requires { ⌜ RowsRight (now nodes) (now steering) problem (now rows) ⌝ }
     requires { ⌜ (11664 ≤ length (now table)) × (start < 729) × (1 ≤ d) × (d ≤ 16) × (16 ≤ length (now out)) ⌝ }
-    requires { ⌜ Each (now nodes) (now steering) t (now segments) (now places) k (λ net. Kept net (start * 16) d (now table)) ⌝ }
-    ensures { λ _. ⌜ RowsRight (now (nodes .entry)) (now (steering .entry)) t (now (segments .entry)) (now (places .entry)) k (now (rows .exit)) ⌝ }
-    ensures { λ _. ⌜ Each (now (nodes .entry)) (now (steering .entry)) t (now (segments .entry)) (now (places .entry)) k (λ net. PlanTraced net (start * 16) d (now (out .entry)) (now (out .exit))) ⌝ }
+    requires { ⌜ Each (now nodes) (now steering) problem (λ net. Kept net (start * 16) d (now table)) ⌝ }
+    ensures { λ _. ⌜ RowsRight (now (nodes .entry)) (now (steering .entry)) problem (now (rows .exit)) ⌝ }
+    ensures { λ _. ⌜ Each (now (nodes .entry)) (now (steering .entry)) problem (λ net. PlanTraced net (start * 16) d (now (out .entry)) (now (out .exit))) ⌝ }
 {
     let mut x = start;
     let mut m: usize = 0;
     let mut i: usize = 0;
     while i < d {
-        know_row(nodes, steering, t, segments, places, k, x, rows);
+        know_row(nodes, steering, problem, x, rows);
         let mut lands: Lands = [0; 64];
         let n = list_lands(rows, x, &mut lands);
         m = m | number(rows, x, GAIN);

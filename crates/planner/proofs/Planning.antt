@@ -38,8 +38,8 @@ use Rattle.planner.proofs.Finding.{plan-empty, found-nothing, FoundPlan
 use Rattle.planner.proofs.Calling.{given-written, plans-none, plans-given}
 
 -- a table of zeros has no row yet
-pub rows-none : (ns steering : List ℕ) (t : Tally) (segments places : List ℕ) (k : ℕ) → RowsRight ns steering t segments places k (replicate 8019 0)
-rows-none ns steering t segments places k = record {
+pub rows-none : (ns steering : List ℕ) (pb : Problem) → RowsRight ns steering pb (replicate 8019 0)
+rows-none ns steering pb = record {
   size = length-replicate {A = ℕ} 8019 0;
   right = λ net p x l e. absurd (omega (arith, zero-at 8019 (x * 11 + 0)));
 }

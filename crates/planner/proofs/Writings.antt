@@ -38,7 +38,7 @@ use Rattle.planner.proofs.WholeText.{
 }
 
 -- what the writers of a line ask
-pub prepared-fills : {net : Network} {ns steering : List ℕ} {t : Tally} {segments places : List ℕ} {k : ℕ} {wants : List ℕ} → Prepared net ns steering t segments places k → WantsOf t wants
+pub prepared-fills : {net : Network} {ns steering : List ℕ} {pb : Problem} {wants : List ℕ} → Prepared net ns steering pb → WantsOf t wants
     → Fills net ns steering wants
 prepared-fills {ns = ns} p w =
     record { steering-is = p .steering-is; wants-are = λ s b l inside. w .are s l ns b inside ∙ ap (λ (ts : List Target). wanted ts s b) (sym (p .targets-are)) }
@@ -64,9 +64,9 @@ module _ {rows : List ℕ} {x c r : ℕ} {lands : List ℕ} (less : c < rowNumbe
 -- ---- one turn: i choices are passed, and x is the setting behind them
 
 module _ {net : Network} {ns steering : List ℕ} {t : Tally} {segments places : List ℕ} {k start : ℕ} {picked : List ℕ} {n : ℕ} {cs : List ℕ}
-    (o : CountsOf net ns steering t segments places k start picked n cs) where
+    (o : CountsOf net ns steering pb start picked n cs) where
   few : length (steeringBits (net .nodes)) ≤ 6
-  few = planned-few net ns steering t segments places k (o .prepared)
+  few = planned-few net ns steering pb (o .prepared)
 
   first-passed : Passed net cs 0 start
   first-passed = record { small = o .picks .within; follows = o .picks .follows }
@@ -87,7 +87,7 @@ module _ {net : Network} {ns steering : List ℕ} {t : Tally} {segments places :
         turn-step = step-made net (o .prepared .accepted) cs i c inside choice-is x f
 
     -- row x is known
-    module _ {rows : List ℕ} (right : RowsRight ns steering t segments places k rows) (known : rowNumber rows x 0 ≡ 1) where
+    module _ {rows : List ℕ} (right : RowsRight ns steering pb rows) (known : rowNumber rows x 0 ≡ 1) where
       pub turn-lands : Lands net rows x
       turn-lands = record { accepted = o .prepared .accepted; few = few; row = right .right net (o .prepared) x turn-small known }
 
@@ -97,58 +97,58 @@ module _ {net : Network} {ns steering : List ℕ} {t : Tally} {segments places :
 -- ---- the length
 
 abbrev pub Counting : List ℕ → List ℕ → Tally → List ℕ → List ℕ → ℕ → ℕ → List ℕ → ℕ → ℕ → ℕ → ℕ → Type 0
-Counting ns steering t segments places k start picked n i x sum =
-    (net : Network) (cs : List ℕ) → CountsOf net ns steering t segments places k start picked n cs → Counted net start cs i x sum
+Counting ns steering pb start picked n i x sum =
+    (net : Network) (cs : List ℕ) → CountsOf net ns steering pb start picked n cs → Counted net start cs i x sum
 
 module _ {ns steering : List ℕ} {t : Tally} {segments places : List ℕ} {k start : ℕ} {picked : List ℕ} {n : ℕ} where
-  pub counting-none : Counting ns steering t segments places k start picked n 0 start 0
+  pub counting-none : Counting ns steering pb start picked n 0 start 0
   counting-none net cs o = count-none net start cs (first-passed o)
 
-  module _ {i x sum : ℕ} (s : Counting ns steering t segments places k start picked n i x sum) where
+  module _ {i x sum : ℕ} (s : Counting ns steering pb start picked n i x sum) where
     -- its line has 5 bytes and the bits of the path, whose count is in the row
-    module _ (l : i < n) {rows : List ℕ} (right : RowsRight ns steering t segments places k rows) (known : rowNumber rows x 0 ≡ 1) {len : ℕ} (long : len ≡ rowNumber rows x 4) where
-      path-long : (net : Network) (cs : List ℕ) (o : CountsOf net ns steering t segments places k start picked n cs) → len ≡ pathLength (turn-step o (s net cs o .passed) l refl .route)
+    module _ (l : i < n) {rows : List ℕ} (right : RowsRight ns steering pb rows) (known : rowNumber rows x 0 ≡ 1) {len : ℕ} (long : len ≡ rowNumber rows x 4) where
+      path-long : (net : Network) (cs : List ℕ) (o : CountsOf net ns steering pb start picked n cs) → len ≡ pathLength (turn-step o (s net cs o .passed) l refl .route)
       path-long net cs o =
           let f = s net cs o .passed in
           let st = turn-step o f l refl in
           long ∙ turn-lands o f right known .row .routed (st .route) (st .walks) .length-is
 
-      pub counting-fits : {net : Network} {cs : List ℕ} → CountsOf net ns steering t segments places k start picked n cs → sum + (5 + len) ≤ 64080
+      pub counting-fits : {net : Network} {cs : List ℕ} → CountsOf net ns steering pb start picked n cs → sum + (5 + len) ≤ 64080
       counting-fits {net} {cs} o =
           let st = turn-step o (s net cs o .passed) l refl in
           omega (arith, path-long net cs o, path-short net (o .prepared .accepted) x (st .route) (st .walks), s net cs o .bound, o .picks .most)
 
-      pub counting-more : {c : ℕ} → c ≡ getD picked i 0 → {next : ℕ} → LandIn rows x c next → Counting ns steering t segments places k start picked n (i + 1) next (sum + (5 + len))
+      pub counting-more : {c : ℕ} → c ≡ getD picked i 0 → {next : ℕ} → LandIn rows x c next → Counting ns steering pb start picked n (i + 1) next (sum + (5 + len))
       counting-more {c} is {next} to net cs o =
           let f = s net cs o .passed in
           let st = turn-step o f l refl in
           count-more net (o .prepared .accepted) cs i c (inside o f l) (choice-is o f l is) (st .route) (st .walks) (s net cs o) len next (path-long net cs o)
           (to .of net (turn-lands o f right known))
 
-    pub counting-all : n ≤ i → Counts ns steering t segments places k start picked n sum
+    pub counting-all : n ≤ i → Counts ns steering pb start picked n sum
     counting-all l net cs o = count-all (omega (arith, o .picks .long)) (s net cs o)
 
 -- ---- the text
 
 abbrev pub Writing : List ℕ → List ℕ → Tally → List ℕ → List ℕ → ℕ → ℕ → List ℕ → ℕ → List ℕ → ℕ → ℕ → ℕ → List ℕ → Type 0
-Writing ns steering t segments places k start picked n old i x place buf =
-    (net : Network) (cs : List ℕ) → WritesOf net ns steering t segments places k start picked n old cs → Written net start cs old i x place buf
+Writing ns steering pb start picked n old i x place buf =
+    (net : Network) (cs : List ℕ) → WritesOf net ns steering pb start picked n old cs → Written net start cs old i x place buf
 
 module _ {ns steering : List ℕ} {t : Tally} {segments places : List ℕ} {k start : ℕ} {picked : List ℕ} {n : ℕ} {old : List ℕ} where
-  pub writing-none : Writing ns steering t segments places k start picked n old 0 start 0 old
+  pub writing-none : Writing ns steering pb start picked n old 0 start 0 old
   writing-none net cs o = text-none net start cs (first-passed (o .counts)) old
 
-  module _ {i x place : ℕ} {buf : List ℕ} (s : Writing ns steering t segments places k start picked n old i x place buf) where
-    module _ (l : i < n) {r : Walked} {way : List ℕ} (w : SettingWalked ns steering t segments places k x r way) where
-      pub writing-stops : (m : ℕ) → r ≡ Stopped m → Writes ns steering t segments places k start picked n old buf
+  module _ {i x place : ℕ} {buf : List ℕ} (s : Writing ns steering pb start picked n old i x place buf) where
+    module _ (l : i < n) {r : Walked} {way : List ℕ} (w : SettingWalked ns steering pb x r way) where
+      pub writing-stops : (m : ℕ) → r ≡ Stopped m → Writes ns steering pb start picked n old buf
       writing-stops m e net cs o = absurd (no-stop (turn-step (o .counts) (s net cs o .passed) l refl) m (w net (o .counts .prepared) .tells ∙ ap (told ns way) e))
 
       module _ (m : ℕ) (e : r ≡ Path m) where
-        path-walk : {net : Network} → Prepared net ns steering t segments places k → walkAt net x ≡ path (scanPath ns (take m way))
+        path-walk : {net : Network} → Prepared net ns steering pb → walkAt net x ≡ path (scanPath ns (take m way))
         path-walk {net} p = w net p .tells ∙ ap (told ns way) e
 
         -- what `put_line` asks
-        pub writing-room : {net : Network} {cs : List ℕ} → WritesOf net ns steering t segments places k start picked n old cs → HasRoom ns way m (place + 5) buf
+        pub writing-room : {net : Network} {cs : List ℕ} → WritesOf net ns steering pb start picked n old cs → HasRoom ns way m (place + 5) buf
         writing-room {net} {cs} o =
             let q = o .counts in
             let f = s net cs o .passed in
@@ -160,9 +160,9 @@ module _ {ns steering : List ℕ} {t : Tally} {segments places : List ℕ} {k st
               text-room net (q .prepared .accepted) cs i (getD picked i 0) (inside q f l) (choice-is q f l refl) (scanPath ns (take m way)) (path-walk (q .prepared)) (s net cs o) (o .room),
             ))
 
-        pub writing-more : {rows : List ℕ} → RowsRight ns steering t segments places k rows → rowNumber rows x 0 ≡ 1 → {c : ℕ} → c ≡ getD picked i 0
+        pub writing-more : {rows : List ℕ} → RowsRight ns steering pb rows → rowNumber rows x 0 ≡ 1 → {c : ℕ} → c ≡ getD picked i 0
             → {h next end : ℕ} {new : List ℕ} → h ≡ rowNumber rows x 1 → LandIn rows x c next → end ≡ place + (5 + pathLength (scanPath ns (take m way)))
-            → length new ≡ length buf → {wants : List ℕ} → WantsOf t wants → LinePut ns steering wants way m place h c buf new → Writing ns steering t segments places k start picked n old (i + 1) next end new
+            → length new ≡ length buf → {wants : List ℕ} → WantsOf t wants → LinePut ns steering wants way m place h c buf new → Writing ns steering pb start picked n old (i + 1) next end new
         writing-more right known {c} is {h} {next} {end} {new} choices to behind same ws put net cs o =
             let q = o .counts in
             let f = s net cs o .passed in
@@ -170,5 +170,5 @@ module _ {ns steering : List ℕ} {t : Tally} {segments places : List ℕ} {k st
             text-more net (q .prepared .accepted) cs i c (inside q f l) (choice-is q f l is) (scanPath ns (take m way)) (path-walk (q .prepared)) (s net cs o) (o .room) h next end new
             (choices ∙ lands .row .count-is) (to .of net lands) behind same (put net (prepared-fills (q .prepared) ws))
 
-    pub writing-all : n ≤ i → Writes ns steering t segments places k start picked n old buf
+    pub writing-all : n ≤ i → Writes ns steering pb start picked n old buf
     writing-all l net cs o = text-all (omega (arith, o .counts .picks .long)) (s net cs o)

@@ -9,8 +9,8 @@ use Rattle.model.specs.PlanText.{writePlan}
 use Rattle.model.specs.Result.{Result, ok, refused}
 use Rattle.model.specs.Text.{Bytes}
 use Rattle.model.specs.Calls.{writeOver, written, countOf, ifRoom}
-use Rattle.network.specs.declared.draft.Tally.{Tally}
 use Rattle.search.specs.Moves.{land, decode, Follows}
+use Rattle.settings.specs.declared.steering.Problem.{Problem}
 use Rattle.settings.specs.Route.{Prepared}
 use Rattle.settings.specs.Rows.{Lands}
 use Rattle.planner.specs.declared.writer.Planned.{Planned}
@@ -32,32 +32,32 @@ pub record Picked (net : Network) (start : ℕ) (picked : List ℕ) (n : ℕ) (c
   pub are : (i : ℕ) → i < n → getD picked i 0 ≡ getD cs i 0
 
 -- the arrays hold the network, and the choices are its own
-pub record CountsOf (net : Network) (ns steering : List ℕ) (t : Tally) (segments places : List ℕ) (k start : ℕ) (picked : List ℕ) (n : ℕ) (cs : List ℕ) : Type 0 where
-  pub prepared : Prepared net ns steering t segments places k
+pub record CountsOf (net : Network) (ns steering : List ℕ) (p : Problem) (start : ℕ) (picked : List ℕ) (n : ℕ) (cs : List ℕ) : Type 0 where
+  pub prepared : Prepared net ns steering p
   pub picks : Picked net start picked n cs
 
-abbrev pub Countable : List ℕ → List ℕ → Tally → List ℕ → List ℕ → ℕ → ℕ → List ℕ → ℕ → Type 0
-Countable ns steering t segments places k start picked n = (net : Network) × (cs : List ℕ) × CountsOf net ns steering t segments places k start picked n cs
+abbrev pub Countable : List ℕ → List ℕ → Problem → ℕ → List ℕ → ℕ → Type 0
+Countable ns steering p start picked n = (net : Network) × (cs : List ℕ) × CountsOf net ns steering p start picked n cs
 
 -- ---- the length
 
-abbrev pub Counts : List ℕ → List ℕ → Tally → List ℕ → List ℕ → ℕ → ℕ → List ℕ → ℕ → ℕ → Type 0
-Counts ns steering t segments places k start picked n r =
-    (net : Network) (cs : List ℕ) → CountsOf net ns steering t segments places k start picked n cs → r ≡ textLength net start cs
+abbrev pub Counts : List ℕ → List ℕ → Problem → ℕ → List ℕ → ℕ → ℕ → Type 0
+Counts ns steering p start picked n r =
+    (net : Network) (cs : List ℕ) → CountsOf net ns steering p start picked n cs → r ≡ textLength net start cs
 
 -- ---- the text
 
-pub record WritesOf (net : Network) (ns steering : List ℕ) (t : Tally) (segments places : List ℕ) (k start : ℕ) (picked : List ℕ) (n : ℕ) (old cs : List ℕ) : Type 0 where
-  pub counts : CountsOf net ns steering t segments places k start picked n cs
+pub record WritesOf (net : Network) (ns steering : List ℕ) (p : Problem) (start : ℕ) (picked : List ℕ) (n : ℕ) (old cs : List ℕ) : Type 0 where
+  pub counts : CountsOf net ns steering p start picked n cs
   pub room : textLength net start cs ≤ length old
 
-abbrev pub Writable : List ℕ → List ℕ → Tally → List ℕ → List ℕ → ℕ → ℕ → List ℕ → ℕ → List ℕ → Type 0
-Writable ns steering t segments places k start picked n old =
-    (net : Network) × (cs : List ℕ) × WritesOf net ns steering t segments places k start picked n old cs
+abbrev pub Writable : List ℕ → List ℕ → Problem → ℕ → List ℕ → ℕ → List ℕ → Type 0
+Writable ns steering p start picked n old =
+    (net : Network) × (cs : List ℕ) × WritesOf net ns steering p start picked n old cs
 
-abbrev pub Writes : List ℕ → List ℕ → Tally → List ℕ → List ℕ → ℕ → ℕ → List ℕ → ℕ → List ℕ → List ℕ → Type 0
-Writes ns steering t segments places k start picked n old new =
-    (net : Network) (cs : List ℕ) → WritesOf net ns steering t segments places k start picked n old cs → new ≡ writeOver (writePlan (decode net start cs)) old
+abbrev pub Writes : List ℕ → List ℕ → Problem → ℕ → List ℕ → ℕ → List ℕ → List ℕ → Type 0
+Writes ns steering p start picked n old new =
+    (net : Network) (cs : List ℕ) → WritesOf net ns steering p start picked n old cs → new ≡ writeOver (writePlan (decode net start cs)) old
 
 -- ---- the text, or 13
 
@@ -71,6 +71,6 @@ pub record Given (text : Bytes) (old : List ℕ) (r : Planned) (new : List ℕ) 
   pub result : answerOf r ≡ countOf (ifRoom (length old) text)
   pub left : new ≡ written (ifRoom (length old) text) old
 
-abbrev pub GivesText : List ℕ → List ℕ → Tally → List ℕ → List ℕ → ℕ → ℕ → List ℕ → ℕ → List ℕ → Planned → List ℕ → Type 0
-GivesText ns steering t segments places k start picked n old r new =
-    (net : Network) (cs : List ℕ) → CountsOf net ns steering t segments places k start picked n cs → Given (writePlan (decode net start cs)) old r new
+abbrev pub GivesText : List ℕ → List ℕ → Problem → ℕ → List ℕ → ℕ → List ℕ → Planned → List ℕ → Type 0
+GivesText ns steering p start picked n old r new =
+    (net : Network) (cs : List ℕ) → CountsOf net ns steering p start picked n cs → Given (writePlan (decode net start cs)) old r new

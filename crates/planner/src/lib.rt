@@ -10,7 +10,7 @@ use network::reader::read_network;
 use path::layout::wide;
 use settings::rows::Rows;
 use settings::rows::power_of_2;
-use settings::steering::list_steering;
+use settings::steering::problem_of;
 use settings::steering::setting_number;
 ghost use mathlib.Core.Path.{_≡_};
 ghost use Prim.Native.Nat.{_≤_};
@@ -32,27 +32,15 @@ fn search_network(net: Network, search: &mut [u16], plan: &mut [u8]) -> Planned
     requires { ⌜ 1 ≤ net .tally .«target_count» ⌝ }
     ensures { λ r. ⌜ PlansIn net (now (search .entry)) (now (plan .entry)) r (now (search .exit)) (now (plan .exit)) ⌝ }
 {
-    let t = net.tally;
-    let mut segments = [0usize; 6];
-    let mut places = [0usize; 6];
-    let k = list_steering(
-        &net.nodes,
-        &net.steering,
-        t.count,
-        &mut segments,
-        &mut places,
-    );
-    let start = setting_number(&net.bits, &net.known, &segments, &places, k);
-    let full = wide(power_of_2(t.target_count)) - 1;
+    let problem = problem_of(&net.nodes, &net.steering, net.tally);
+    let start = setting_number(&net.bits, &net.known, problem);
+    let full = wide(power_of_2(problem.tally.target_count)) - 1;
     let mut rows: Rows = [0; 8019];
     let mut picked = [0u8; 16];
     let found = find_plan(
         &net.nodes,
         &net.steering,
-        t,
-        &segments,
-        &places,
-        k,
+        problem,
         &mut rows,
         start,
         full,
@@ -64,10 +52,7 @@ fn search_network(net: Network, search: &mut [u16], plan: &mut [u8]) -> Planned
         Found::Operations(n) => write_plan(
             &net.nodes,
             &net.steering,
-            t,
-            &segments,
-            &places,
-            k,
+            problem,
             &mut rows,
             start,
             &picked,

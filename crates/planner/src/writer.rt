@@ -1,7 +1,6 @@
 // The text of a plan from the choices of the search: its length, then its lines, each along the path of its setting.
 use crate::line::list_wants;
 use crate::line::put_line;
-use network::draft::Tally;
 use path::layout::Nodes;
 use path::layout::Way;
 use path::layout::Words;
@@ -15,6 +14,7 @@ use settings::rows::Rows;
 use settings::rows::know_row;
 use settings::rows::list_lands;
 use settings::rows::number;
+use settings::steering::Problem;
 ghost use mathlib.Core.Path.{_≡_};
 ghost use Prim.Native.Nat.{_<_};
 ghost use Rattle.settings.specs.Rows.{rowNumber, RowsRight, Landing};
@@ -48,25 +48,22 @@ fn land_of(rows: &Rows, x: usize, c: usize) -> usize
 fn text_length<'a>(
     nodes: &'a Nodes,
     steering: &'a Words,
-    t: Tally,
-    segments: &'a [usize; 6],
-    places: &'a [usize; 6],
-    k: usize,
+    problem: Problem,
     rows: &mut Rows,
     start: usize,
     picked: &'a [u8; 16],
     n: usize,
 ) -> usize
-    requires { ⌜ Countable (now nodes) (now steering) t (now segments) (now places) k start (now picked) n ⌝ }
-    requires { ⌜ RowsRight (now nodes) (now steering) t (now segments) (now places) k (now rows) ⌝ }
-    ensures { λ _. ⌜ RowsRight (now (nodes .entry)) (now (steering .entry)) t (now (segments .entry)) (now (places .entry)) k (now (rows .exit)) ⌝ }
-    ensures { λ r. ⌜ Counts (now (nodes .entry)) (now (steering .entry)) t (now (segments .entry)) (now (places .entry)) k start (now (picked .entry)) n r ⌝ }
+    requires { ⌜ Countable (now nodes) (now steering) problem start (now picked) n ⌝ }
+    requires { ⌜ RowsRight (now nodes) (now steering) problem (now rows) ⌝ }
+    ensures { λ _. ⌜ RowsRight (now (nodes .entry)) (now (steering .entry)) problem (now (rows .exit)) ⌝ }
+    ensures { λ r. ⌜ Counts (now (nodes .entry)) (now (steering .entry)) problem start (now (picked .entry)) n r ⌝ }
 {
     let mut sum: usize = 0;
     let mut x = start;
     let mut i: usize = 0;
     while i < n {
-        know_row(nodes, steering, t, segments, places, k, x, rows);
+        know_row(nodes, steering, problem, x, rows);
         sum += 5 + number(rows, x, LENGTH);
         x = land_of(rows, x, as_index(picked[i]));
         i += 1;
@@ -78,32 +75,29 @@ fn text_length<'a>(
 fn write_text<'a>(
     nodes: &'a Nodes,
     steering: &'a Words,
-    t: Tally,
-    segments: &'a [usize; 6],
-    places: &'a [usize; 6],
-    k: usize,
+    problem: Problem,
     rows: &mut Rows,
     start: usize,
     picked: &'a [u8; 16],
     n: usize,
     plan: &mut [u8],
 )
-    requires { ⌜ Writable (now nodes) (now steering) t (now segments) (now places) k start (now picked) n (now plan) ⌝ }
-    requires { ⌜ RowsRight (now nodes) (now steering) t (now segments) (now places) k (now rows) ⌝ }
-    ensures { λ _. ⌜ Writes (now (nodes .entry)) (now (steering .entry)) t (now (segments .entry)) (now (places .entry)) k start (now (picked .entry)) n (now (plan .entry)) (now (plan .exit)) ⌝ }
+    requires { ⌜ Writable (now nodes) (now steering) problem start (now picked) n (now plan) ⌝ }
+    requires { ⌜ RowsRight (now nodes) (now steering) problem (now rows) ⌝ }
+    ensures { λ _. ⌜ Writes (now (nodes .entry)) (now (steering .entry)) problem start (now (picked .entry)) n (now (plan .entry)) (now (plan .exit)) ⌝ }
 {
     let mut wants: Words = [0; 129];
-    list_wants(t, &mut wants);
+    list_wants(problem.tally, &mut wants);
     let mut way: Way = [0; 128];
     let mut at: usize = 0;
     let mut x = start;
     let mut i: usize = 0;
     while i < n {
-        let walked = walk_setting(nodes, steering, t, segments, places, k, x, &mut way);
+        let walked = walk_setting(nodes, steering, problem, x, &mut way);
         let Walked::Path(m) = walked else {
             return;
         };
-        know_row(nodes, steering, t, segments, places, k, x, rows);
+        know_row(nodes, steering, problem, x, rows);
         let c = as_index(picked[i]);
         let h = number(rows, x, COUNT);
         at = put_line(nodes, steering, &wants, &way, m, plan, at, h, c);
@@ -116,47 +110,21 @@ fn write_text<'a>(
 pub fn write_plan<'a>(
     nodes: &'a Nodes,
     steering: &'a Words,
-    t: Tally,
-    segments: &'a [usize; 6],
-    places: &'a [usize; 6],
-    k: usize,
+    problem: Problem,
     rows: &mut Rows,
     start: usize,
     picked: &'a [u8; 16],
     n: usize,
     plan: &mut [u8],
 ) -> Planned
-    requires { ⌜ Countable (now nodes) (now steering) t (now segments) (now places) k start (now picked) n ⌝ }
-    requires { ⌜ RowsRight (now nodes) (now steering) t (now segments) (now places) k (now rows) ⌝ }
-    ensures { λ r. ⌜ GivesText (now (nodes .entry)) (now (steering .entry)) t (now (segments .entry)) (now (places .entry)) k start (now (picked .entry)) n (now (plan .entry)) r (now (plan .exit)) ⌝ }
+    requires { ⌜ Countable (now nodes) (now steering) problem start (now picked) n ⌝ }
+    requires { ⌜ RowsRight (now nodes) (now steering) problem (now rows) ⌝ }
+    ensures { λ r. ⌜ GivesText (now (nodes .entry)) (now (steering .entry)) problem start (now (picked .entry)) n (now (plan .entry)) r (now (plan .exit)) ⌝ }
 {
-    let needed = text_length(
-        nodes,
-        steering,
-        t,
-        segments,
-        places,
-        k,
-        rows,
-        start,
-        picked,
-        n,
-    );
+    let needed = text_length(nodes, steering, problem, rows, start, picked, n);
     if plan.len() < needed {
         return Planned::Refused(13, needed);
     }
-    write_text(
-        nodes,
-        steering,
-        t,
-        segments,
-        places,
-        k,
-        rows,
-        start,
-        picked,
-        n,
-        plan,
-    );
+    write_text(nodes, steering, problem, rows, start, picked, n, plan);
     Planned::Written(needed)
 }

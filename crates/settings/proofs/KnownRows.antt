@@ -15,10 +15,10 @@ use Rattle.model.proofs.Accepted.{Accepted}
 use Rattle.path.specs.Answers.{told, Holds}
 use Rattle.path.specs.declared.walk.Walked.{Walked}
 use Rattle.path.specs.declared.walk.Walked.the-variants.{Path, Stop as Stopped}
-use Rattle.network.specs.declared.draft.Tally.{Tally}
 use Rattle.search.specs.Settings.{lookUp, walkAt}
 use Rattle.search.proofs.MoveLaws.{count-stop, gain-stop, path-falls, few-choices}
-use Rattle.settings.specs.Route.{Prepared, SettingWalked}
+use Rattle.settings.specs.declared.steering.Problem.{Problem}
+use Rattle.settings.specs.Route.{Prepared, Each, WalkIs}
 use Rattle.settings.specs.Rows.{rowNumber, Outside, Unread, RowOf, PathIs, RowRead, RowsRight}
 use Rattle.settings.proofs.SettingWalk.{planned-few}
 
@@ -46,24 +46,24 @@ row-stopped net x m old new e u = record {
 
 -- ---- the table
 
-module _ (ns steering : List ℕ) (t : Tally) (segments places : List ℕ) (k : ℕ) (old : List ℕ) (rows : RowsRight ns steering t segments places k old) (x : ℕ) where
-  rows-more : (new : List ℕ) → ((net : Network) → Prepared net ns steering t segments places k → RowOf net new x) → Outside old x new → length new ≡ 8019
-      → RowsRight ns steering t segments places k new
+module _ (ns steering : List ℕ) (pb : Problem) (old : List ℕ) (rows : RowsRight ns steering pb old) (x : ℕ) where
+  rows-more : (new : List ℕ) → Each ns steering pb (λ net. RowOf net new x) → Outside old x new → length new ≡ 8019
+      → RowsRight ns steering pb new
   rows-more new row outside size = record { size = size; right = λ net p y small known. by net p y small known (eqb y x) refl }
     where
-      by : (net : Network) → Prepared net ns steering t segments places k → (y : ℕ) → y < 729 → rowNumber new y 0 ≡ 1 → (b : Bool) → eqb y x ≡ b → RowOf net new y
+      by : (net : Network) → Prepared net ns steering pb → (y : ℕ) → y < 729 → rowNumber new y 0 ≡ 1 → (b : Bool) → eqb y x ≡ b → RowOf net new y
       by net p y small known true e = subst (RowOf net new) (sym (eqb-is y x e)) (row net p)
       by net p y small known false e =
           let same : (i : ℕ) → i < 11 → rowNumber new y i ≡ rowNumber old y i = λ i l. outside y i (eqb-false y x e) l in
-          row-kept net (p .accepted) (planned-few net ns steering t segments places k p) old new y same (rows .right net p y small (sym (same 0 (omega arith)) ∙ known))
+          row-kept net (p .accepted) (planned-few net ns steering pb p) old new y same (rows .right net p y small (sym (same 0 (omega arith)) ∙ known))
 
-  module _ (r : Walked) (way : List ℕ) (w : SettingWalked ns steering t segments places k x r way) where
-    pub stop-known : (m : ℕ) (new : List ℕ) → r ≡ Stopped m → Unread old x new → RowsRight ns steering t segments places k new
+  module _ (r : Walked) (way : List ℕ) (w : Each ns steering pb (λ net. WalkIs net ns x r way)) where
+    pub stop-known : (m : ℕ) (new : List ℕ) → r ≡ Stopped m → Unread old x new → RowsRight ns steering pb new
     stop-known m new e u = rows-more new (λ net p. row-stopped net x m old new (w net p .tells ∙ ap (told ns way) e) u) (u .outside) (u .size)
 
     -- what `write_path` asks, and its row
-    pub path-is : (net : Network) → Prepared net ns steering t segments places k → (n : ℕ) → r ≡ Path n → PathIs net ns steering t segments k way n x
-    path-is net p n e = record { places = places; prepared = p; holds = subst (Holds ns way) e (w net p .holds); tells = w net p .tells ∙ ap (told ns way) e }
+    pub path-is : (net : Network) → Prepared net ns steering pb → (n : ℕ) → r ≡ Path n → PathIs net ns steering pb way n x
+    path-is net p n e = record { prepared = p; holds = subst (Holds ns way) e (w net p .holds); tells = w net p .tells ∙ ap (told ns way) e }
 
-    pub path-known : (n : ℕ) (new : List ℕ) → r ≡ Path n → RowRead ns steering t segments k way n x old new → RowsRight ns steering t segments places k new
+    pub path-known : (n : ℕ) (new : List ℕ) → r ≡ Path n → RowRead ns steering pb way n x old new → RowsRight ns steering pb new
     path-known n new e q = rows-more new (λ net p. q .row net (path-is net p n e)) (q .outside) (q .size)

@@ -14,7 +14,7 @@ use Rattle.model.specs.Path.{bitValue}
 use Rattle.model.proofs.Lists.{length-tabulate, tabulate-cong}
 use Rattle.path.specs.Layout.{nodeAt, nodesOf, wordWidth, wordBit}
 use Rattle.network.proofs.Drawing.{tabulate-snoc}
-use Rattle.settings.specs.Steering.{pairAt, bitsOf, Pairs, markedIn, markedFrom, Behind, Steered}
+use Rattle.settings.specs.Steering.{pairAt, bitsOf, Pairs, markedIn, Behind, Steered}
 
 pub length-bits : (segments places : List ℕ) (k : ℕ) → length (bitsOf segments places k) ≡ k
 length-bits segments places k = length-tabulate (pairAt segments places) 0 k
@@ -100,6 +100,11 @@ module _ (w len s : ℕ) (segments₀ places₀ : List ℕ) (n : ℕ) where
       record { lists = sym (append-nil (bitsOf segments places m)) ∙ (rw e at (p .whole)); sized = p .sized }
 
 -- ---- the segments in turn
+
+-- the bits that are set in the words of segments s on, n nodes
+unfoldable pub markedFrom : List ℕ → List ℕ → ℕ → ℕ → List (ℕ × ℕ)
+markedFrom ns steering s zero = []
+markedFrom ns steering s (suc n) = markedIn (getD steering s 0) s 0 (lenOf (nodeAt ns s)) ++ markedFrom ns steering (suc s) n
 
 pub record Gathering (ns steering : List ℕ) (count s : ℕ) (segments places : List ℕ) (n : ℕ) : Type 0 where
   pub first : 1 ≤ s

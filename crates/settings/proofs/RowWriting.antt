@@ -7,7 +7,7 @@ use native.Mathlib.Omega.{arith}
 use native.Mathlib.Decide.{decLt}
 use lib.ListN.{length, getD, set, length-set}
 use lib.Seq.{getD-set-same, getD-set-other}
-use Rattle.settings.specs.Rows.{rowNumber, Outside, OrderWritten, Row, Unread}
+use Rattle.settings.specs.Rows.{rowNumber, Outside, OrderWritten, RowWritten, Unread}
 
 -- ---- numbers of row x one after the other
 
@@ -47,7 +47,7 @@ order-written old x order m i new l p = record { order-is = λ j h. p .are j (om
 module _ (old : List ℕ) (x : ℕ) (size : length old ≡ 8019) (small : x < 729) where
   -- with these numbers
   pub row-written : (width mask base len : ℕ) (order : List ℕ) (m : ℕ) (new : List ℕ)
-      → OrderWritten (set (set (set (set (set old (x * 11 + 0) 1) (x * 11 + 1) width) (x * 11 + 2) mask) (x * 11 + 3) base) (x * 11 + 4) len) x order m new → Row old x width mask base len order m new
+      → OrderWritten (set (set (set (set (set old (x * 11 + 0) 1) (x * 11 + 1) width) (x * 11 + 2) mask) (x * 11 + 3) base) (x * 11 + 4) len) x order m new → RowWritten old x width mask base len order m new
   row-written width mask base len order m new o =
       let p0 = filling-none old x 0 (λ j. getD (1 ∷ width ∷ mask ∷ base ∷ len ∷ []) j 0) size in
       let p1 = filling-more p0 (x * 11 + 0) 1 small (omega arith) (omega arith) refl in

@@ -18,24 +18,24 @@ use Rattle.path.specs.declared.walk.Walked.{Walked}
 use Rattle.path.proofs.ConfigLaws.{config-bit, at-tabulate, good-most}
 use Rattle.path.proofs.StoredLaws.{found-walk, stored-walkable}
 use Rattle.path.proofs.WordLaws.{zero-bit}
-use Rattle.network.specs.declared.draft.Tally.{Tally}
 use Rattle.network.specs.Draws.{targetAt, targetsOf}
 use Rattle.network.proofs.BadAddresses.{node-beyond}
 use Rattle.network.proofs.Records.{fits-segment, segment-at}
 use Rattle.search.specs.Settings.{Distinct, lookUp, walkAt}
 use Rattle.search.proofs.Steering.{distinct-bits, SteeringBit, steering-bit, bit-listed, getD-in}
 use Rattle.search.proofs.SameWalk.{walk-same}
-use Rattle.settings.specs.Steering.{bitsOf, pairAt, Listed, SetTo}
-use Rattle.settings.specs.Route.{Steers, TargetsWithin, Prepared, SettingWalked}
+use Rattle.settings.specs.declared.steering.Problem.{Problem}
+use Rattle.settings.specs.Steering.{steeringOf, pairAt, Listed, SetTo}
+use Rattle.settings.specs.Route.{Steers, TargetsWithin, Prepared, Each, WalkIs}
 use Rattle.settings.proofs.Listing.{length-bits}
 use Rattle.settings.proofs.Wording.{pair-at}
 
-module _ (net : Network) (ns steering : List ℕ) (t : Tally) (segments places : List ℕ) (k : ℕ) (p : Prepared net ns steering t segments places k) where
+module _ (net : Network) (ns steering : List ℕ) (pb : Problem) (p : Prepared net ns steering pb) where
   pub planned-few : length (steeringBits (net .nodes)) ≤ 6
-  planned-few = omega (arith, ap length (p .bits-are), length-bits segments places k, p .few)
+  planned-few = omega (arith, ap length (p .bits-are), length-bits (pb .segments) (pb .places) (pb .width), p .few)
 
-  as-many : length (net .nodes) ≡ t .count
-  as-many = ap length (p .stored .nodes) ∙ length-tabulate (nodeAt ns) 1 (t .count)
+  as-many : length (net .nodes) ≡ pb .tally .count
+  as-many = ap length (p .stored .nodes) ∙ length-tabulate (nodeAt ns) 1 (pb .tally .count)
 
   -- ---- the steering bits
 
@@ -43,76 +43,76 @@ module _ (net : Network) (ns steering : List ℕ) (t : Tally) (segments places :
   len-most zero a b = absurd (not-suc-le-zero a)
   len-most (suc n) a b = good-most (net .nodes) (suc n) (getD (net .nodes) n noNode) (p .accepted .wf .backwards n b)
 
-  bit-of : (j : ℕ) → j < k → SteeringBit (net .nodes) (pairAt segments places j)
+  bit-of : (j : ℕ) → j < pb .width → SteeringBit (net .nodes) (pairAt (pb .segments) (pb .places) j)
   bit-of j l =
-      steering-bit (net .nodes) (pairAt segments places j)
-      (subst (List·Memᴰ (pairAt segments places j)) (p .bits-are)
-      (subst (λ (q : ℕ × ℕ). List·Memᴰ q (bitsOf segments places k)) (pair-at segments places k j l) (getD-in (bitsOf segments places k) j (0, 0) (omega (arith, length-bits segments places k)))))
+      steering-bit (net .nodes) (pairAt (pb .segments) (pb .places) j)
+      (subst (List·Memᴰ (pairAt (pb .segments) (pb .places) j)) (p .bits-are)
+      (subst (λ (q : ℕ × ℕ). List·Memᴰ q (steeringOf pb)) (pair-at (pb .segments) (pb .places) (pb .width) j l) (getD-in (steeringOf pb) j (0, 0) (omega (arith, length-bits (pb .segments) (pb .places) (pb .width))))))
 
   -- what `set_words` asks
-  pub planned-listed : Listed segments places k
+  pub planned-listed : Listed pb
   planned-listed = record {
     few = p .few;
     within = λ j l. omega (arith, bit-of j l .most, as-many, p .stored .most);
-    inside = λ j l. let q = bit-of j l in omega (arith, q .inside, len-most (getD segments j 0) (q .least) (q .most));
+    inside = λ j l. let q = bit-of j l in omega (arith, q .inside, len-most (getD (pb .segments) j 0) (q .least) (q .most));
     distinct = subst Distinct (sym (p .bits-are)) (distinct-bits (net .nodes));
   }
 
   -- the word of a steering bit has that bit, so it is not 0
-  pub planned-steers : Steers steering segments k
+  pub planned-steers : Steers steering (pb .segments) (pb .width)
   planned-steers j l e =
       let q = planned-listed in
-      let bit : wordBit (getD steering (getD segments j 0) 0) (getD places j 0) ≡ true =
-      p .steering-is (getD segments j 0) (getD places j 0) (q .within j l) (q .inside j l) ∙ bit-of j l .steering in
-      true-false (sym bit ∙ ap (λ (w : ℕ). wordBit w (getD places j 0)) e ∙ zero-bit (getD places j 0))
+      let bit : wordBit (getD steering (getD (pb .segments) j 0) 0) (getD (pb .places) j 0) ≡ true =
+      p .steering-is (getD (pb .segments) j 0) (getD (pb .places) j 0) (q .within j l) (q .inside j l) ∙ bit-of j l .steering in
+      true-false (sym bit ∙ ap (λ (w : ℕ). wordBit w (getD (pb .places) j 0)) e ∙ zero-bit (getD (pb .places) j 0))
 
   -- ---- the targets
 
-  target-in : (i : ℕ) → i < t .«target_count» → List·Memᴰ (targetAt ns t i) (net .targets)
+  target-in : (i : ℕ) → i < pb .tally .«target_count» → List·Memᴰ (targetAt ns (pb .tally) i) (net .targets)
   target-in i l =
-      let e : getD (targetsOf ns t) i (read 0) ≡ targetAt ns t i = getD-tabulate (targetAt ns t) 0 (t .«target_count») i (read 0) l ∙ ap (targetAt ns t) (zero-add i) in
-      let m = getD-in (targetsOf ns t) i (read 0) (omega (arith, length-tabulate (targetAt ns t) 0 (t .«target_count»))) in
-      subst (List·Memᴰ (targetAt ns t i)) (sym (p .targets-are)) (subst (λ (x : Target). List·Memᴰ x (targetsOf ns t)) e m)
+      let e : getD (targetsOf ns (pb .tally)) i (read 0) ≡ targetAt ns (pb .tally) i = getD-tabulate (targetAt ns (pb .tally)) 0 (pb .tally .«target_count») i (read 0) l ∙ ap (targetAt ns (pb .tally)) (zero-add i) in
+      let m = getD-in (targetsOf ns (pb .tally)) i (read 0) (omega (arith, length-tabulate (targetAt ns (pb .tally)) 0 (pb .tally .«target_count»))) in
+      subst (List·Memᴰ (targetAt ns (pb .tally) i)) (sym (p .targets-are)) (subst (λ (x : Target). List·Memᴰ x (targetsOf ns (pb .tally))) e m)
 
-  pub planned-targets : TargetsWithin t
-  planned-targets i l = by (getD (t .«target_segment») i 0) (sym (segment-at ns t i)) (decLt 128 (getD (t .«target_segment») i 0))
+  pub planned-targets : TargetsWithin (pb .tally)
+  planned-targets i l = by (getD (pb .tally .«target_segment») i 0) (sym (segment-at ns (pb .tally) i)) (decLt 128 (getD (pb .tally .«target_segment») i 0))
     where
-      fits : isSegment (at (net .nodes) (targetSegment (targetAt ns t i)) noNode) ≡ true
-      fits = fits-segment (net .nodes) (targetAt ns t i) (p .accepted .targets-fit .fits (targetAt ns t i) (target-in i l))
+      fits : isSegment (at (net .nodes) (targetSegment (targetAt ns (pb .tally) i)) noNode) ≡ true
+      fits = fits-segment (net .nodes) (targetAt ns (pb .tally) i) (p .accepted .targets-fit .fits (targetAt ns (pb .tally) i) (target-in i l))
 
-      by : (s : ℕ) → s ≡ targetSegment (targetAt ns t i) → Dec (128 < s) → s ≤ 128
+      by : (s : ℕ) → s ≡ targetSegment (targetAt ns (pb .tally) i) → Dec (128 < s) → s ≤ 128
       by s e (no g) = omega arith
       by s e (yes g) =
           let beyond : at (net .nodes) s noNode ≡ noNode =
-          ap (λ (l : List Node). at l s noNode) (p .stored .nodes) ∙ node-beyond ns (t .count) s (omega (arith, p .stored .most)) in
+          ap (λ (l : List Node). at l s noNode) (p .stored .nodes) ∙ node-beyond ns (pb .tally .count) s (omega (arith, p .stored .most)) in
           absurd (true-false (sym fits ∙ ap (λ (r : ℕ). isSegment (at (net .nodes) r noNode)) (sym e) ∙ ap isSegment beyond))
 
   -- ---- what `find_path` asks and tells
 
-  pub planned-walkable : (way : List ℕ) → length way ≡ 128 → Walkable ns (t .out) way 0
-  planned-walkable way e = stored-walkable net ns (t .count) (t .out) (p .stored) way e
+  pub planned-walkable : (way : List ℕ) → length way ≡ 128 → Walkable ns (pb .tally .out) way 0
+  planned-walkable way e = stored-walkable net ns (pb .tally .count) (pb .tally .out) (p .stored) way e
 
-  node-is : (s : ℕ) → 1 ≤ s → s ≤ t .count → at (net .nodes) s noNode ≡ nodeAt ns s
-  node-is s a b = ap (λ (l : List Node). at l s noNode) (p .stored .nodes) ∙ at-tabulate (nodeAt ns) (t .count) s noNode a b
+  node-is : (s : ℕ) → 1 ≤ s → s ≤ pb .tally .count → at (net .nodes) s noNode ≡ nodeAt ns s
+  node-is s a b = ap (λ (l : List Node). at l s noNode) (p .stored .nodes) ∙ at-tabulate (nodeAt ns) (pb .tally .count) s noNode a b
 
-  module _ (x : ℕ) (bits known : List ℕ) (set-to : SetTo (bitsOf segments places k) x bits known) where
+  module _ (x : ℕ) (bits known : List ℕ) (set-to : SetTo (steeringOf pb) x bits known) where
     -- the words have each steering bit as the setting has it
-    same-bit : (s b : ℕ) → steers (net .nodes) s b ≡ true → lookUp (steeringBits (net .nodes)) x s b ≡ bitOf (configOf ns bits known (t .count)) s b
+    same-bit : (s b : ℕ) → steers (net .nodes) s b ≡ true → lookUp (steeringBits (net .nodes)) x s b ≡ bitOf (configOf ns bits known (pb .tally .count)) s b
     same-bit s b e =
         let m = bit-listed (net .nodes) (p .accepted .wf .backwards) s b e in
         let q = steering-bit (net .nodes) (s, b) m in
-        let most : s ≤ t .count = omega (arith, q .most, as-many) in
+        let most : s ≤ pb .tally .count = omega (arith, q .most, as-many) in
         let inside : b < lenOf (nodeAt ns s) = subst (λ (nd : Node). b < lenOf nd) (node-is s (q .least) most) (q .inside) in
         ap (λ (l : List (ℕ × ℕ)). lookUp l x s b) (sym (p .bits-are)) ∙ sym (set-to .holds s b (subst (List·Memᴰ (s, b)) (sym (p .bits-are)) m))
-        ∙ sym (config-bit ns bits known (t .count) s b (q .least) most inside)
+        ∙ sym (config-bit ns bits known (pb .tally .count) s b (q .least) most inside)
 
-    pub setting-walk : (r : Walked) (way : List ℕ) → Found ns bits known (t .out) r way → walkAt net x ≡ told ns way r
+    pub setting-walk : (r : Walked) (way : List ℕ) → Found ns bits known (pb .tally .out) r way → walkAt net x ≡ told ns way r
     setting-walk r way f =
-        walk-same (lookUp (steeringBits (net .nodes)) x) (bitOf (configOf ns bits known (t .count))) (net .nodes) same-bit (net .out) (net .out)
-        ∙ found-walk net ns (t .count) (t .out) (p .stored) bits known r way f
+        walk-same (lookUp (steeringBits (net .nodes)) x) (bitOf (configOf ns bits known (pb .tally .count))) (net .nodes) same-bit (net .out) (net .out)
+        ∙ found-walk net ns (pb .tally .count) (pb .tally .out) (p .stored) bits known r way f
 
 -- for every network that the arrays hold: the walk, by the words of setting x
-pub setting-walked : (ns steering : List ℕ) (t : Tally) (segments places : List ℕ) (k x : ℕ) (bits known : List ℕ) → SetTo (bitsOf segments places k) x bits known
-    → (r : Walked) (way : List ℕ) → Found ns bits known (t .out) r way → SettingWalked ns steering t segments places k x r way
-setting-walked ns steering t segments places k x bits known set-to r way f net p =
-    record { tells = setting-walk net ns steering t segments places k p x bits known set-to r way f; holds = f .holds }
+pub setting-walked : (ns steering : List ℕ) (pb : Problem) (x : ℕ) (bits known : List ℕ) → SetTo (steeringOf pb) x bits known
+    → (r : Walked) (way : List ℕ) → Found ns bits known (pb .tally .out) r way → Each ns steering pb (λ net. WalkIs net ns x r way)
+setting-walked ns steering pb x bits known set-to r way f net p =
+    record { tells = setting-walk net ns steering pb p x bits known set-to r way f; holds = f .holds }

@@ -20,7 +20,8 @@ use Rattle.network.specs.Store.{BitMarked}
 use Rattle.search.specs.Settings.{Distinct, distinct-cons, tritOf, lookUp}
 use Rattle.search.proofs.Steering.{getD-in}
 use Rattle.search.proofs.SettingNumbers.{look-at, place-other}
-use Rattle.settings.specs.Steering.{pairAt, bitsOf, Listed, Cleared, DigitSet, SetTo}
+use Rattle.settings.specs.declared.steering.Problem.{Problem}
+use Rattle.settings.specs.Steering.{pairAt, bitsOf, steeringOf, Listed, Cleared, DigitSet, SetTo}
 use Rattle.settings.proofs.Listing.{length-bits}
 
 -- ---- clearing
@@ -101,53 +102,53 @@ index-in (x ∷ l) d a (List·Memᴰ·tail m) = let r = index-in l d a m in (suc
 
 -- ---- the loop that sets them: those before j have their digits, the others are clear
 
-pub record Setting (segments places : List ℕ) (k x j : ℕ) (bits known : List ℕ) (y : ℕ) : Type 0 where
-  pub passed : j ≤ k
+pub record Setting (pb : Problem) (x j : ℕ) (bits known : List ℕ) (y : ℕ) : Type 0 where
+  pub passed : j ≤ pb .width
   pub rest : y ≡ x / 3 ^ j
   pub sized : Sized bits known
-  pub done : (i : ℕ) → i < j → lookIn bits known (getD segments i 0) (getD places i 0) ≡ tritOf (x / 3 ^ i % 3)
-  pub words : (i : ℕ) → j ≤ i → i < k → wordBit (getD bits (getD segments i 0) 0) (getD places i 0) ≡ false
-  pub marks : (i : ℕ) → j ≤ i → i < k → wordBit (getD known (getD segments i 0) 0) (getD places i 0) ≡ false
+  pub done : (i : ℕ) → i < j → lookIn bits known (getD (pb .segments) i 0) (getD (pb .places) i 0) ≡ tritOf (x / 3 ^ i % 3)
+  pub words : (i : ℕ) → j ≤ i → i < pb .width → wordBit (getD bits (getD (pb .segments) i 0) 0) (getD (pb .places) i 0) ≡ false
+  pub marks : (i : ℕ) → j ≤ i → i < pb .width → wordBit (getD known (getD (pb .segments) i 0) 0) (getD (pb .places) i 0) ≡ false
 
-pub setting-none : (segments places : List ℕ) (k x : ℕ) (bits known : List ℕ) → Cleared segments k bits known → Setting segments places k x 0 bits known x
-setting-none segments places k x bits known p = record {
+pub setting-none : (pb : Problem) (x : ℕ) (bits known : List ℕ) → Cleared (pb .segments) (pb .width) bits known → Setting pb x 0 bits known x
+setting-none pb x bits known p = record {
   passed = omega arith;
   rest = omega arith;
   sized = p .sized;
   done = λ i l. absurd (omega arith);
-  words = λ i a l. rw (p .words i l) (zero-bit (getD places i 0));
-  marks = λ i a l. rw (p .marks i l) (zero-bit (getD places i 0));
+  words = λ i a l. rw (p .words i l) (zero-bit (getD (pb .places) i 0));
+  marks = λ i a l. rw (p .marks i l) (zero-bit (getD (pb .places) i 0));
 }
 
-module _ (segments places : List ℕ) (k : ℕ) (ls : Listed segments places k) where
-  other-pair : (i j : ℕ) → i < k → j < k → (i ≡ j → ⊥) → (eqb (getD segments j 0) (getD segments i 0) && eqb (getD places j 0) (getD places i 0)) ≡ false
-  other-pair i j a b ne = place-other (pairAt segments places j) (getD segments i 0) (getD places i 0) (λ e. apart (decLt i j) e)
+module _ (pb : Problem) (ls : Listed pb) where
+  other-pair : (i j : ℕ) → i < pb .width → j < pb .width → (i ≡ j → ⊥) → (eqb (getD (pb .segments) j 0) (getD (pb .segments) i 0) && eqb (getD (pb .places) j 0) (getD (pb .places) i 0)) ≡ false
+  other-pair i j a b ne = place-other (pairAt (pb .segments) (pb .places) j) (getD (pb .segments) i 0) (getD (pb .places) i 0) (λ e. apart (decLt i j) e)
     where
-      same : (u v : ℕ) → u < k → v < k → pairAt segments places u ≡ pairAt segments places v → getD (bitsOf segments places k) u (0, 0) ≡ getD (bitsOf segments places k) v (0, 0)
-      same u v l m e = pair-at segments places k u l ∙ e ∙ sym (pair-at segments places k v m)
+      same : (u v : ℕ) → u < pb .width → v < pb .width → pairAt (pb .segments) (pb .places) u ≡ pairAt (pb .segments) (pb .places) v → getD (steeringOf pb) u (0, 0) ≡ getD (steeringOf pb) v (0, 0)
+      same u v l m e = pair-at (pb .segments) (pb .places) (pb .width) u l ∙ e ∙ sym (pair-at (pb .segments) (pb .places) (pb .width) v m)
 
-      apart : Dec (i < j) → pairAt segments places j ≡ pairAt segments places i → ⊥
-      apart (yes l) e = distinct-apart (bitsOf segments places k) (ls .distinct) i j (0, 0) l (omega (arith, length-bits segments places k)) (same i j a b (sym e))
-      apart (no l) e = distinct-apart (bitsOf segments places k) (ls .distinct) j i (0, 0) (omega arith) (omega (arith, length-bits segments places k)) (same j i b a e)
+      apart : Dec (i < j) → pairAt (pb .segments) (pb .places) j ≡ pairAt (pb .segments) (pb .places) i → ⊥
+      apart (yes l) e = distinct-apart (steeringOf pb) (ls .distinct) i j (0, 0) l (omega (arith, length-bits (pb .segments) (pb .places) (pb .width))) (same i j a b (sym e))
+      apart (no l) e = distinct-apart (steeringOf pb) (ls .distinct) j i (0, 0) (omega arith) (omega (arith, length-bits (pb .segments) (pb .places) (pb .width))) (same j i b a e)
 
-  module _ (x j : ℕ) (bits known bits′ known′ : List ℕ) (y : ℕ) (lt : j < k) (q : DigitSet bits known (getD segments j 0) (getD places j 0) (y % 3) bits′ known′) (p : Setting segments places k x j bits known y) where
-    word-kept : (i : ℕ) → i < k → (i ≡ j → ⊥) → wordBit (getD bits′ (getD segments i 0) 0) (getD places i 0) ≡ wordBit (getD bits (getD segments i 0) 0) (getD places i 0)
-    word-kept i l ne = q .words (getD segments i 0) (getD places i 0) (ls .within i l) (ls .inside i l) ∙ rw (other-pair i j l lt ne) (no-more (wordBit (getD bits (getD segments i 0) 0) (getD places i 0)) (eqb (y % 3) 1))
+  module _ (x j : ℕ) (bits known bits′ known′ : List ℕ) (y : ℕ) (lt : j < pb .width) (q : DigitSet bits known (getD (pb .segments) j 0) (getD (pb .places) j 0) (y % 3) bits′ known′) (p : Setting pb x j bits known y) where
+    word-kept : (i : ℕ) → i < pb .width → (i ≡ j → ⊥) → wordBit (getD bits′ (getD (pb .segments) i 0) 0) (getD (pb .places) i 0) ≡ wordBit (getD bits (getD (pb .segments) i 0) 0) (getD (pb .places) i 0)
+    word-kept i l ne = q .words (getD (pb .segments) i 0) (getD (pb .places) i 0) (ls .within i l) (ls .inside i l) ∙ rw (other-pair i j l lt ne) (no-more (wordBit (getD bits (getD (pb .segments) i 0) 0) (getD (pb .places) i 0)) (eqb (y % 3) 1))
 
-    mark-kept : (i : ℕ) → i < k → (i ≡ j → ⊥) → wordBit (getD known′ (getD segments i 0) 0) (getD places i 0) ≡ wordBit (getD known (getD segments i 0) 0) (getD places i 0)
-    mark-kept i l ne = q .marks (getD segments i 0) (getD places i 0) (ls .within i l) (ls .inside i l) ∙ rw (other-pair i j l lt ne) (no-more (wordBit (getD known (getD segments i 0) 0) (getD places i 0)) (ltb (y % 3) 2))
+    mark-kept : (i : ℕ) → i < pb .width → (i ≡ j → ⊥) → wordBit (getD known′ (getD (pb .segments) i 0) 0) (getD (pb .places) i 0) ≡ wordBit (getD known (getD (pb .segments) i 0) 0) (getD (pb .places) i 0)
+    mark-kept i l ne = q .marks (getD (pb .segments) i 0) (getD (pb .places) i 0) (ls .within i l) (ls .inside i l) ∙ rw (other-pair i j l lt ne) (no-more (wordBit (getD known (getD (pb .segments) i 0) 0) (getD (pb .places) i 0)) (ltb (y % 3) 2))
 
-    word-new : wordBit (getD bits′ (getD segments j 0) 0) (getD places j 0) ≡ eqb (y % 3) 1
+    word-new : wordBit (getD bits′ (getD (pb .segments) j 0) 0) (getD (pb .places) j 0) ≡ eqb (y % 3) 1
     word-new =
-        q .words (getD segments j 0) (getD places j 0) (ls .within j lt) (ls .inside j lt)
-        ∙ rw (p .words j (omega arith) lt, eqb-same (getD segments j 0), eqb-same (getD places j 0)) (and-true (eqb (y % 3) 1))
+        q .words (getD (pb .segments) j 0) (getD (pb .places) j 0) (ls .within j lt) (ls .inside j lt)
+        ∙ rw (p .words j (omega arith) lt, eqb-same (getD (pb .segments) j 0), eqb-same (getD (pb .places) j 0)) (and-true (eqb (y % 3) 1))
 
-    mark-new : wordBit (getD known′ (getD segments j 0) 0) (getD places j 0) ≡ ltb (y % 3) 2
+    mark-new : wordBit (getD known′ (getD (pb .segments) j 0) 0) (getD (pb .places) j 0) ≡ ltb (y % 3) 2
     mark-new =
-        q .marks (getD segments j 0) (getD places j 0) (ls .within j lt) (ls .inside j lt)
-        ∙ rw (p .marks j (omega arith) lt, eqb-same (getD segments j 0), eqb-same (getD places j 0)) (and-true (ltb (y % 3) 2))
+        q .marks (getD (pb .segments) j 0) (getD (pb .places) j 0) (ls .within j lt) (ls .inside j lt)
+        ∙ rw (p .marks j (omega arith) lt, eqb-same (getD (pb .segments) j 0), eqb-same (getD (pb .places) j 0)) (and-true (ltb (y % 3) 2))
 
-    pub setting-more : Setting segments places k x (j + 1) bits′ known′ (y / 3)
+    pub setting-more : Setting pb x (j + 1) bits′ known′ (y / 3)
     setting-more = record {
       passed = omega arith;
       rest = ap (λ (n : ℕ). n / 3) (p .rest) ∙ div-div-eq-div-mul x (3 ^ j) 3 ∙ ap (λ (n : ℕ). x / n) (sym (pow-suc 3 j)) ∙ ap (λ (n : ℕ). x / 3 ^ n) (sym (add-one j));
@@ -157,19 +158,19 @@ module _ (segments places : List ℕ) (k : ℕ) (ls : Listed segments places k) 
       marks = λ i a l. mark-kept i l (λ z. omega arith) ∙ p .marks i (omega arith) l;
     }
       where
-        done : (i : ℕ) → Dec (i < j) → i < j + 1 → lookIn bits′ known′ (getD segments i 0) (getD places i 0) ≡ tritOf (x / 3 ^ i % 3)
+        done : (i : ℕ) → Dec (i < j) → i < j + 1 → lookIn bits′ known′ (getD (pb .segments) i 0) (getD (pb .places) i 0) ≡ tritOf (x / 3 ^ i % 3)
         done i (yes h) l = rw (mark-kept i (omega arith) (λ z. omega arith), word-kept i (omega arith) (λ z. omega arith)) (p .done i h)
         done i (no h) l =
             let z : i ≡ j = omega arith in
             rw (z, mark-new, word-new) (ap (λ (n : ℕ). tritOf (n % 3)) (p .rest))
 
-  pub setting-all : (x j : ℕ) (bits known : List ℕ) (y : ℕ) → k ≤ j → Setting segments places k x j bits known y → SetTo (bitsOf segments places k) x bits known
+  pub setting-all : (x j : ℕ) (bits known : List ℕ) (y : ℕ) → pb .width ≤ j → Setting pb x j bits known y → SetTo (steeringOf pb) x bits known
   setting-all x j bits known y l p = record { sized = p .sized; holds = holds }
     where
-      holds : (s b : ℕ) → List·Memᴰ (s, b) (bitsOf segments places k) → lookIn bits known s b ≡ lookUp (bitsOf segments places k) x s b
+      holds : (s b : ℕ) → List·Memᴰ (s, b) (steeringOf pb) → lookIn bits known s b ≡ lookUp (steeringOf pb) x s b
       holds s b m =
-          let r = index-in (bitsOf segments places k) (0, 0) (s, b) m in
-          let small : r .0 < k = omega (arith, r .1, length-bits segments places k) in
-          let e : pairAt segments places (r .0) ≡ (s, b) = sym (pair-at segments places k (r .0) small) ∙ r .2 in
+          let r = index-in (steeringOf pb) (0, 0) (s, b) m in
+          let small : r .0 < pb .width = omega (arith, r .1, length-bits (pb .segments) (pb .places) (pb .width)) in
+          let e : pairAt (pb .segments) (pb .places) (r .0) ≡ (s, b) = sym (pair-at (pb .segments) (pb .places) (pb .width) (r .0) small) ∙ r .2 in
           ap (λ (q : ℕ × ℕ). lookIn bits known (q .0) (q .1)) (sym e) ∙ p .done (r .0) (omega arith)
-          ∙ sym (look-at (bitsOf segments places k) (ls .distinct) x (r .0) (r .1)) ∙ ap (λ (q : ℕ × ℕ). lookUp (bitsOf segments places k) x (q .0) (q .1)) (r .2)
+          ∙ sym (look-at (steeringOf pb) (ls .distinct) x (r .0) (r .1)) ∙ ap (λ (q : ℕ × ℕ). lookUp (steeringOf pb) x (q .0) (q .1)) (r .2)

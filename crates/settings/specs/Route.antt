@@ -15,7 +15,8 @@ use Rattle.network.specs.declared.draft.Tally.{Tally}
 use Rattle.network.specs.Draws.{Tame, targetsOf}
 use Rattle.search.specs.Settings.{walkAt, indicesIn, order, baseOf}
 use Rattle.search.specs.Moves.{maskOf, onPath}
-use Rattle.settings.specs.Steering.{bitsOf}
+use Rattle.settings.specs.declared.steering.Problem.{Problem}
+use Rattle.settings.specs.Steering.{bitsOf, steeringOf}
 
 -- ---- marks of the segments on a path
 
@@ -77,22 +78,23 @@ MaskBy marks t r = (ns : List ℕ) (p : ScanPath) → MarksOf marks p → r ≡ 
 -- ---- the network in the arrays, and its walk in a setting
 
 -- the arrays hold the network and its steering bits, of which there are at most 6
-pub record Prepared (net : Network) (ns steering : List ℕ) (t : Tally) (segments places : List ℕ) (k : ℕ) : Type 0 where
-  pub stored : Stored net ns (t .count) (t .out)
+pub record Prepared (net : Network) (ns steering : List ℕ) (p : Problem) : Type 0 where
+  pub stored : Stored net ns (p .tally .count) (p .tally .out)
   pub accepted : Accepted net
-  pub targets-are : net .targets ≡ targetsOf ns t
-  pub tame : Tame t
+  pub targets-are : net .targets ≡ targetsOf ns (p .tally)
+  pub tame : Tame (p .tally)
   pub steering-is : (s b : ℕ) → s ≤ 128 → b < wordWidth → wordBit (getD steering s 0) b ≡ steers (net .nodes) s b
-  pub bits-are : bitsOf segments places k ≡ steeringBits (net .nodes)
-  pub few : k ≤ 6
+  pub bits-are : steeringOf p ≡ steeringBits (net .nodes)
+  pub few : p .width ≤ 6
 
-abbrev pub Plannable : List ℕ → List ℕ → Tally → List ℕ → List ℕ → ℕ → Type 0
-Plannable ns steering t segments places k = (net : Network) × Prepared net ns steering t segments places k
+abbrev pub Plannable : List ℕ → List ℕ → Problem → Type 0
+Plannable ns steering p = (net : Network) × Prepared net ns steering p
 
--- the walk in setting x of each network that the arrays hold
+-- for each network that the arrays hold
+abbrev pub Each : List ℕ → List ℕ → Problem → (Network → Type 0) → Type 0
+Each ns steering p P = (net : Network) → Prepared net ns steering p → P net
+
+-- the walk in setting x
 pub record WalkIs (net : Network) (ns : List ℕ) (x : ℕ) (r : Walked) (way : List ℕ) : Type 0 where
   pub tells : walkAt net x ≡ told ns way r
   pub holds : Holds ns way r
-
-abbrev pub SettingWalked : List ℕ → List ℕ → Tally → List ℕ → List ℕ → ℕ → ℕ → Walked → List ℕ → Type 0
-SettingWalked ns steering t segments places k x r way = (net : Network) → Prepared net ns steering t segments places k → WalkIs net ns x r way

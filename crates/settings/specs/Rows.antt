@@ -11,9 +11,9 @@ use Rattle.model.specs.Path.{ScanPath, path, pathLength}
 use Rattle.model.proofs.Accepted.{Accepted}
 use Rattle.path.specs.Layout.{scanPath}
 use Rattle.path.specs.Answers.{HoldsPath}
-use Rattle.network.specs.declared.draft.Tally.{Tally}
 use Rattle.search.specs.Settings.{walkAt, order, baseOf}
 use Rattle.search.specs.Moves.{count, gain, land}
+use Rattle.settings.specs.declared.steering.Problem.{Problem}
 use Rattle.settings.specs.Route.{Prepared}
 
 abbrev pub rowNumber : List ℕ → ℕ → ℕ → ℕ
@@ -32,7 +32,7 @@ pub record OrderWritten (old : List ℕ) (x : ℕ) (order : List ℕ) (m : ℕ) 
   pub outside : Outside old x new
   pub size : length new ≡ 8019
 
-pub record Row (old : List ℕ) (x width mask base len : ℕ) (order : List ℕ) (m : ℕ) (new : List ℕ) : Type 0 where
+pub record RowWritten (old : List ℕ) (x width mask base len : ℕ) (order : List ℕ) (m : ℕ) (new : List ℕ) : Type 0 where
   pub known : rowNumber new x 0 ≡ 1
   pub count-is : rowNumber new x 1 ≡ width
   pub gain-is : rowNumber new x 2 ≡ mask
@@ -64,26 +64,25 @@ pub record RowOf (net : Network) (rows : List ℕ) (x : ℕ) : Type 0 where
   pub gain-is : rowNumber rows x 2 ≡ gain net x
   pub routed : (p : ScanPath) → walkAt net x ≡ path p → Routed net rows x p
 
--- the path of n segments is that of setting x of each network that the arrays hold, and there is one
-pub record PathIs (net : Network) (ns steering : List ℕ) (t : Tally) (segments : List ℕ) (k : ℕ) (way : List ℕ) (n x : ℕ) : Type 0 where
-  pub places : List ℕ
-  pub prepared : Prepared net ns steering t segments places k
+-- the arrays hold the network, and the path of n segments is that of setting x
+pub record PathIs (net : Network) (ns steering : List ℕ) (p : Problem) (way : List ℕ) (n x : ℕ) : Type 0 where
+  pub prepared : Prepared net ns steering p
   pub holds : HoldsPath ns way n
   pub tells : walkAt net x ≡ path (scanPath ns (take n way))
 
-abbrev pub PathRead : List ℕ → List ℕ → Tally → List ℕ → ℕ → List ℕ → ℕ → ℕ → Type 0
-PathRead ns steering t segments k way n x = (net : Network) × PathIs net ns steering t segments k way n x
+abbrev pub PathRead : List ℕ → List ℕ → Problem → List ℕ → ℕ → ℕ → Type 0
+PathRead ns steering p way n x = (net : Network) × PathIs net ns steering p way n x
 
-pub record RowRead (ns steering : List ℕ) (t : Tally) (segments : List ℕ) (k : ℕ) (way : List ℕ) (n x : ℕ) (old new : List ℕ) : Type 0 where
-  pub row : (net : Network) → PathIs net ns steering t segments k way n x → RowOf net new x
+pub record RowRead (ns steering : List ℕ) (p : Problem) (way : List ℕ) (n x : ℕ) (old new : List ℕ) : Type 0 where
+  pub row : (net : Network) → PathIs net ns steering p way n x → RowOf net new x
   pub known : rowNumber new x 0 ≡ 1
   pub outside : Outside old x new
   pub size : length new ≡ 8019
 
 -- each row that is written is that of every network that the arrays hold
-pub record RowsRight (ns steering : List ℕ) (t : Tally) (segments places : List ℕ) (k : ℕ) (rows : List ℕ) : Type 0 where
+pub record RowsRight (ns steering : List ℕ) (p : Problem) (rows : List ℕ) : Type 0 where
   pub size : length rows ≡ 8019
-  pub right : (net : Network) → Prepared net ns steering t segments places k → (x : ℕ) → x < 729 → rowNumber rows x 0 ≡ 1 → RowOf net rows x
+  pub right : (net : Network) → Prepared net ns steering p → (x : ℕ) → x < 729 → rowNumber rows x 0 ≡ 1 → RowOf net rows x
 
 -- ---- where the choices lead
 

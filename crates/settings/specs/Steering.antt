@@ -6,11 +6,13 @@ use mathlib.Core.List.{List, [], _∷_, _++_, List·Memᴰ}
 use Prim.Native.Nat.{ℕ, zero, suc, _≤_, _<_}
 use lib.Dec.{eqb, ltb}
 use lib.ListN.{length, getD}
-use Rattle.model.specs.Network.{lenOf, tabulate, steers, steeringBits}
-use Rattle.path.specs.Layout.{nodeAt, nodesOf, wordWidth, wordBit, lookIn}
+use Rattle.model.specs.Network.{tabulate, steers, steeringBits}
+use Rattle.path.specs.Layout.{nodesOf, wordWidth, wordBit, lookIn}
 use Rattle.path.specs.Answers.{Sized}
+use Rattle.network.specs.declared.draft.Tally.{Tally}
 use Rattle.network.specs.Draws.{Short}
 use Rattle.search.specs.Settings.{Distinct, lookUp}
+use Rattle.settings.specs.declared.steering.Problem.{Problem}
 
 -- ---- the list
 
@@ -22,6 +24,10 @@ pairAt segments places j = (getD segments j 0, getD places j 0)
 abbrev pub bitsOf : List ℕ → List ℕ → ℕ → List (ℕ × ℕ)
 bitsOf segments places k = tabulate (pairAt segments places) 0 k
 
+-- the steering bits of a problem
+abbrev pub steeringOf : Problem → List (ℕ × ℕ)
+steeringOf p = bitsOf (p .segments) (p .places) (p .width)
+
 -- room for 6
 pub record Pairs (segments places : List ℕ) : Type 0 where
   pub segments-size : length segments ≡ 6
@@ -31,11 +37,6 @@ pub record Pairs (segments places : List ℕ) : Type 0 where
 unfoldable pub markedIn : ℕ → ℕ → ℕ → ℕ → List (ℕ × ℕ)
 markedIn w s b zero = []
 markedIn w s b (suc n) = let later = markedIn w s (suc b) n in cond (wordBit w b) ((s, b) ∷ later) later
-
--- and in the words of segments s on, n nodes
-unfoldable pub markedFrom : List ℕ → List ℕ → ℕ → ℕ → List (ℕ × ℕ)
-markedFrom ns steering s zero = []
-markedFrom ns steering s (suc n) = markedIn (getD steering s 0) s 0 (lenOf (nodeAt ns s)) ++ markedFrom ns steering (suc s) n
 
 -- the first n, then these, are now the first r
 pub record Behind (segments places : List ℕ) (n : ℕ) (more : List (ℕ × ℕ)) (segments′ places′ : List ℕ) (r : ℕ) : Type 0 where
@@ -49,18 +50,24 @@ pub record Steered (ns steering : List ℕ) (count : ℕ) : Type 0 where
   pub steering-is : (s b : ℕ) → s ≤ 128 → b < wordWidth → wordBit (getD steering s 0) b ≡ steers (nodesOf ns count) s b
   pub few : length (steeringBits (nodesOf ns count)) ≤ 6
 
+-- these counts and targets, with the steering bits of the nodes
+pub record ProblemOf (ns : List ℕ) (t : Tally) (p : Problem) : Type 0 where
+  pub tally-is : p .tally ≡ t
+  pub bits-are : steeringOf p ≡ steeringBits (nodesOf ns (t .count))
+  pub few : p .width ≤ 6
+
 -- ---- words for a setting
 
 -- each is the number of a node
 abbrev pub Within : List ℕ → ℕ → Type 0
 Within segments k = (j : ℕ) → j < k → getD segments j 0 ≤ 128
 
--- k distinct bits within the words
-pub record Listed (segments places : List ℕ) (k : ℕ) : Type 0 where
-  pub few : k ≤ 6
-  pub within : Within segments k
-  pub inside : (j : ℕ) → j < k → getD places j 0 < wordWidth
-  pub distinct : Distinct (bitsOf segments places k)
+-- distinct bits within the words
+pub record Listed (p : Problem) : Type 0 where
+  pub few : p .width ≤ 6
+  pub within : Within (p .segments) (p .width)
+  pub inside : (j : ℕ) → j < p .width → getD (p .places) j 0 < wordWidth
+  pub distinct : Distinct (steeringOf p)
 
 pub record Cleared (segments : List ℕ) (k : ℕ) (bits known : List ℕ) : Type 0 where
   pub sized : Sized bits known

@@ -1,5 +1,6 @@
 // The walk in a setting of the steering bits, and what its path has: the steering bits in the order of their places, the targets,
 // and the digits of the steering bits beside it.
+use crate::steering::Problem;
 use crate::steering::set_words;
 use network::draft::Tally;
 use path::layout::Nodes;
@@ -17,7 +18,7 @@ ghost use lib.ListN.{length, getD, take};
 ghost use Rattle.path.specs.Answers.{HoldsPath};
 ghost use Rattle.network.specs.Draws.{Tame};
 ghost use Rattle.settings.specs.Steering.{Within};
-ghost use Rattle.settings.specs.Route.{Blank, PathMarked, Flags, Room, IndicesBehind, Ordered, Steers, BaseBy, TargetsWithin, MaskBy, Plannable, SettingWalked};
+ghost use Rattle.settings.specs.Route.{Blank, PathMarked, Flags, Room, IndicesBehind, Ordered, Steers, BaseBy, TargetsWithin, MaskBy, Plannable, Each, WalkIs};
 
 // A mark for each node number from 0 to 128.
 pub type Marks = [u16; 129];
@@ -108,6 +109,17 @@ pub fn power_of_3(j: usize) -> usize
     }
 }
 
+// The count of settings of k steering bits.
+pub fn setting_count(k: usize) -> usize
+    requires { ⌜ k ≤ 6 ⌝ }
+    ensures { λ r. ⌜ (r ≡ 3 ^ k) × (r ≤ 729) ⌝ }
+{
+    if k == 6 {
+        return 729;
+    }
+    power_of_3(k)
+}
+
 // Digit j of x, or 0 where segment s is marked.
 fn digit_off(marks: &Marks, s: usize, x: usize, j: usize) -> usize
     requires { ⌜ (s ≤ 128) × (j < 6) ⌝ }
@@ -151,20 +163,17 @@ pub fn mask_of_targets(marks: &Marks, t: Tally) -> u16
 pub fn walk_setting<'a>(
     nodes: &'a Nodes,
     steering: &'a Words,
-    t: Tally,
-    segments: &'a [usize; 6],
-    places: &'a [usize; 6],
-    k: usize,
+    problem: Problem,
     x: usize,
     way: &mut Way,
 ) -> Walked
-    requires { ⌜ Plannable (now nodes) (now steering) t (now segments) (now places) k ⌝ }
+    requires { ⌜ Plannable (now nodes) (now steering) problem ⌝ }
     requires { ⌜ length (now way) ≡ 128 ⌝ }
-    ensures { λ r. ⌜ SettingWalked (now (nodes .entry)) (now (steering .entry)) t (now (segments .entry)) (now (places .entry)) k x r (now (way .exit)) ⌝ }
+    ensures { λ r. ⌜ Each (now (nodes .entry)) (now (steering .entry)) problem (λ net. WalkIs net (now (nodes .entry)) x r (now (way .exit))) ⌝ }
     ensures { λ _. ⌜ length (now (way .exit)) ≡ 128 ⌝ }
 {
     let mut bits = [0; 129];
     let mut known = [0; 129];
-    set_words(&mut bits, &mut known, segments, places, k, x);
-    find_path(nodes, &bits, &known, t.out, way)
+    set_words(&mut bits, &mut known, problem, x);
+    find_path(nodes, &bits, &known, problem.tally.out, way)
 }

@@ -8,7 +8,7 @@ use crate::route::mask_of_targets;
 use crate::route::order_of;
 use crate::route::power_of_3;
 use crate::route::walk_setting;
-use network::draft::Tally;
+use crate::steering::Problem;
 use path::layout::Nodes;
 use path::layout::Way;
 use path::layout::Words;
@@ -19,7 +19,7 @@ ghost use mathlib.Core.Path.{_≡_};
 ghost use Prim.Native.Nat.{ℕ, _+_, _^_, _≤_, _<_};
 ghost use lib.ListN.{length, getD};
 ghost use Rattle.settings.specs.Route.{Plannable};
-ghost use Rattle.settings.specs.Rows.{rowNumber, Row, OrderWritten, Unread, PathRead, RowsRight, RowRead, Doubled, Landing, LandsIn};
+ghost use Rattle.settings.specs.Rows.{rowNumber, RowWritten, OrderWritten, Unread, PathRead, RowsRight, RowRead, Doubled, Landing, LandsIn};
 
 pub const KNOWN: usize = 0;
 
@@ -89,7 +89,7 @@ fn write_row(
 )
     requires { ⌜ (length (now rows) ≡ 8019) × (x < 729) × (m ≤ 6) ⌝ }
     requires { ⌜ ((i : ℕ) → i < m → getD (now order) i 0 < 6) ⌝ }
-    ensures { λ _. ⌜ Row (now (rows .entry)) x count gain base len (now (order .entry)) m (now (rows .exit)) ⌝ }
+    ensures { λ _. ⌜ RowWritten (now (rows .entry)) x count gain base len (now (order .entry)) m (now (rows .exit)) ⌝ }
 {
     rows[x * ROW + KNOWN] = 1;
     rows[x * ROW + COUNT] = count;
@@ -103,24 +103,29 @@ fn write_row(
 fn write_path<'a>(
     nodes: &'a Nodes,
     steering: &'a Words,
-    t: Tally,
-    segments: &'a [usize; 6],
-    k: usize,
+    problem: Problem,
     way: &'a Way,
     n: usize,
     x: usize,
     rows: &mut Rows,
 )
-    requires { ⌜ PathRead (now nodes) (now steering) t (now segments) k (now way) n x ⌝ }
+    requires { ⌜ PathRead (now nodes) (now steering) problem (now way) n x ⌝ }
     requires { ⌜ (length (now rows) ≡ 8019) × (x < 729) ⌝ }
-    ensures { λ _. ⌜ RowRead (now (nodes .entry)) (now (steering .entry)) t (now (segments .entry)) k (now (way .entry)) n x (now (rows .entry)) (now (rows .exit)) ⌝ }
+    ensures { λ _. ⌜ RowRead (now (nodes .entry)) (now (steering .entry)) problem (now (way .entry)) n x (now (rows .entry)) (now (rows .exit)) ⌝ }
 {
     let mut marks: Marks = [0; 129];
     mark_path(way, n, &mut marks);
     let mut order = [0usize; 6];
-    let m = order_of(way, n, steering, segments, k, &mut order);
-    let gain = mask_of_targets(&marks, t);
-    let base = base_of(&marks, segments, k, x);
+    let m = order_of(
+        way,
+        n,
+        steering,
+        &problem.segments,
+        problem.width,
+        &mut order,
+    );
+    let gain = mask_of_targets(&marks, problem.tally);
+    let base = base_of(&marks, &problem.segments, problem.width, x);
     let len = path_length(nodes, way, n);
     write_row(
         rows,
@@ -148,25 +153,22 @@ fn write_stop(rows: &mut Rows, x: usize)
 pub fn know_row<'a>(
     nodes: &'a Nodes,
     steering: &'a Words,
-    t: Tally,
-    segments: &'a [usize; 6],
-    places: &'a [usize; 6],
-    k: usize,
+    problem: Problem,
     x: usize,
     rows: &mut Rows,
 )
-    requires { ⌜ Plannable (now nodes) (now steering) t (now segments) (now places) k ⌝ }
-    requires { ⌜ (x < 729) × RowsRight (now nodes) (now steering) t (now segments) (now places) k (now rows) ⌝ }
-    ensures { λ _. ⌜ RowsRight (now (nodes .entry)) (now (steering .entry)) t (now (segments .entry)) (now (places .entry)) k (now (rows .exit)) ⌝ }
+    requires { ⌜ Plannable (now nodes) (now steering) problem ⌝ }
+    requires { ⌜ (x < 729) × RowsRight (now nodes) (now steering) problem (now rows) ⌝ }
+    ensures { λ _. ⌜ RowsRight (now (nodes .entry)) (now (steering .entry)) problem (now (rows .exit)) ⌝ }
     ensures { λ _. ⌜ rowNumber (now (rows .exit)) x 0 ≡ 1 ⌝ }
 {
     if number(rows, x, KNOWN) == 1 {
         return;
     }
     let mut way: Way = [0; 128];
-    match walk_setting(nodes, steering, t, segments, places, k, x, &mut way) {
+    match walk_setting(nodes, steering, problem, x, &mut way) {
         Walked::Stop(_) => write_stop(rows, x),
-        Walked::Path(n) => write_path(nodes, steering, t, segments, k, &way, n, x, rows),
+        Walked::Path(n) => write_path(nodes, steering, problem, &way, n, x, rows),
     }
 }
 

@@ -1,4 +1,5 @@
 // The steering bits of a network in order, and their settings by number: words from a number, and a number from words.
+use network::draft::Tally;
 use network::draft::mark_bit;
 use path::layout::Nodes;
 use path::layout::Word;
@@ -12,7 +13,16 @@ ghost use Rattle.model.specs.Network.{steeringBits};
 ghost use Rattle.path.specs.Layout.{nodesOf, wordWidth, tritAt, lookIn};
 ghost use Rattle.path.specs.Answers.{Sized};
 ghost use Rattle.search.specs.Settings.{digitOf, settingOf};
-ghost use Rattle.settings.specs.Steering.{bitsOf, markedIn, Steered, Pairs, Behind, Within, Listed, Cleared, DigitSet, SetTo};
+ghost use Rattle.settings.specs.Steering.{bitsOf, steeringOf, markedIn, Steered, ProblemOf, Pairs, Behind, Within, Listed, Cleared, DigitSet, SetTo};
+
+// What the search asks of a network's record besides its nodes and words of steering bits: its counts and targets, and the list of
+// its steering bits, by segment and bit, with their count, the width of a setting.
+pub struct Problem {
+    pub tally: Tally,
+    pub segments: [usize; 6],
+    pub places: [usize; 6],
+    pub width: usize,
+}
 
 // The bits that are set among the first len of segment s's word go behind the first n.
 fn list_segment(
@@ -40,7 +50,7 @@ fn list_segment(
 }
 
 // The steering bits of nodes 1 to count, by segment and bit, and how many there are.
-pub fn list_steering<'a>(
+fn list_steering<'a>(
     nodes: &'a Nodes,
     steering: &'a Words,
     count: usize,
@@ -57,6 +67,22 @@ pub fn list_steering<'a>(
         s += 1;
     }
     n
+}
+
+// The counts and targets with the steering bits of the nodes.
+pub fn problem_of<'a>(nodes: &'a Nodes, steering: &'a Words, tally: Tally) -> Problem
+    requires { ⌜ Steered (now nodes) (now steering) (tally .count) ⌝ }
+    ensures { λ r. ⌜ ProblemOf (now (nodes .entry)) tally r ⌝ }
+{
+    let mut segments = [0usize; 6];
+    let mut places = [0usize; 6];
+    let width = list_steering(nodes, steering, tally.count, &mut segments, &mut places);
+    Problem {
+        tally,
+        segments,
+        places,
+        width,
+    }
 }
 
 // The words of the steering segments become 0.
@@ -90,22 +116,15 @@ fn set_digit(bits: &mut Words, known: &mut Words, s: usize, b: usize, d: usize)
 }
 
 // The words in which the steering bits have the values of setting x; other bits are free.
-pub fn set_words<'a>(
-    bits: &mut Words,
-    known: &mut Words,
-    segments: &'a [usize; 6],
-    places: &'a [usize; 6],
-    k: usize,
-    x: usize,
-)
-    requires { ⌜ Listed (now segments) (now places) k × Sized (now bits) (now known) ⌝ }
-    ensures { λ _. ⌜ SetTo (bitsOf (now (segments .entry)) (now (places .entry)) k) x (now (bits .exit)) (now (known .exit)) ⌝ }
+pub fn set_words(bits: &mut Words, known: &mut Words, problem: Problem, x: usize)
+    requires { ⌜ Listed problem × Sized (now bits) (now known) ⌝ }
+    ensures { λ _. ⌜ SetTo (steeringOf problem) x (now (bits .exit)) (now (known .exit)) ⌝ }
 {
-    clear_words(bits, known, segments, k);
+    clear_words(bits, known, &problem.segments, problem.width);
     let mut y = x;
     let mut j: usize = 0;
-    while j < k {
-        set_digit(bits, known, segments[j], places[j], y % 3);
+    while j < problem.width {
+        set_digit(bits, known, problem.segments[j], problem.places[j], y % 3);
         y = y / 3;
         j += 1;
     }
@@ -123,22 +142,16 @@ fn digit_at(bits: Word, known: Word, b: usize) -> usize
 }
 
 // The number of the setting that the words hold.
-pub fn setting_number<'a>(
-    bits: &'a Words,
-    known: &'a Words,
-    segments: &'a [usize; 6],
-    places: &'a [usize; 6],
-    k: usize,
-) -> usize
-    requires { ⌜ Listed (now segments) (now places) k ⌝ }
-    ensures { λ r. ⌜ r ≡ settingOf (bitsOf (now (segments .entry)) (now (places .entry)) k) (lookIn (now (bits .entry)) (now (known .entry))) ⌝ }
+pub fn setting_number<'a>(bits: &'a Words, known: &'a Words, problem: Problem) -> usize
+    requires { ⌜ Listed problem ⌝ }
+    ensures { λ r. ⌜ r ≡ settingOf (steeringOf problem) (lookIn (now (bits .entry)) (now (known .entry))) ⌝ }
 {
     let mut n: usize = 0;
-    let mut j = k;
+    let mut j = problem.width;
     while 0 < j {
         j -= 1;
-        let s = segments[j];
-        n = n * 3 + digit_at(bits[s], known[s], places[j]);
+        let s = problem.segments[j];
+        n = n * 3 + digit_at(bits[s], known[s], problem.places[j]);
     }
     n
 }

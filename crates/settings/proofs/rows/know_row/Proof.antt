@@ -34,7 +34,7 @@ write-path-requires c κs =
     let r = n .before .before in
     let s = r .before .before .before .before .before in
     let w = r .walk-setting .ensures .0 in
-    ((_, path-is _ _ (s .args .t) _ _ _ _ (s .pre .1 .1) _ _ _ w _ (s .pre .0 .1) _ (n .n .given .1)), (s .pre .1 .1 .size, s .pre .1 .0))
+    ((_, path-is _ _ (s .args .problem) _ (s .pre .1 .1) _ _ _ w _ (s .pre .0 .1) _ (n .n .given .1)), (s .pre .1 .1 .size, s .pre .1 .0))
 
 returns-2 : tie.Need-returns-2
 returns-2 c =
@@ -42,7 +42,7 @@ returns-2 c =
     let r = told .before .before in
     let s = r .before .before .before .before .before in
     let u = c .write-stop .ensures in
-    (stop-known _ _ (s .args .t) _ _ _ _ (s .pre .1 .1) _ _ _ (r .walk-setting .ensures .0) _ _ (told .enum-told .given .1) u, u .known)
+    (stop-known _ _ (s .args .problem) _ (s .pre .1 .1) _ _ _ (r .walk-setting .ensures .0) _ _ (told .enum-told .given .1) u, u .known)
 
 returns-3 : tie.Need-returns-3
 returns-3 c =
@@ -50,7 +50,7 @@ returns-3 c =
     let r = n .before .before in
     let s = r .before .before .before .before .before in
     let q = c .write-path .ensures in
-    (path-known _ _ (s .args .t) _ _ _ _ (s .pre .1 .1) _ _ _ (r .walk-setting .ensures .0) _ _ (n .n .given .1) q, q .known)
+    (path-known _ _ (s .args .problem) _ (s .pre .1 .1) _ _ _ (r .walk-setting .ensures .0) _ _ (n .n .given .1) q, q .known)
 
 pub know-row-spec : {M : Type 1} → statement M
 know-row-spec =

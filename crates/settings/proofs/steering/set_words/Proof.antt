@@ -8,46 +8,46 @@ use Rattle.settings.proofs.steering.set_words.Statement.{statement}
 use Rattle.settings.proofs.steering.set_words.Tie as tie
 
 abbrev Inv-loop : tie.InvT-loop
-Inv-loop bits₀ known₀ segments places k x y₀ j₀ bits known y j = Setting segments places k x j bits known y
+Inv-loop bits₀ known₀ x pb y₀ j₀ bits known y j = Setting pb x j bits known y
 
 abbrev μ-loop : tie.MeasureT-loop
-μ-loop bits₀ known₀ segments places k x y₀ j₀ bits known y j = k - j
+μ-loop bits₀ known₀ x pb y₀ j₀ bits known y j = pb .width - j
 
 clear-words-requires : tie.Need-clear-words-requires Inv-loop μ-loop
-clear-words-requires c κs = ((c .before .before .pre .0 .few, c .before .before .pre .1), c .before .before .pre .0 .within)
+clear-words-requires c κs = ((c .before .before .before .before .pre .0 .few, c .before .before .before .before .pre .1), c .before .before .before .before .pre .0 .within)
 
 loop-holds : tie.Need-loop-holds Inv-loop μ-loop
-loop-holds c = setting-none _ _ _ _ _ _ (c .clear-words .ensures)
+loop-holds c = setting-none _ _ _ _ (c .clear-words .ensures)
 
 mul-set-digit : tie.Need-mul-set-digit Inv-loop μ-loop
-mul-set-digit c = omega (arith, c .before .before .before .before .before .before .before .pre .0 .few)
+mul-set-digit c = omega (arith, c .before .before .before .before .before .before .before .before .before .pre .0 .few)
 
 element-copy-out-set-digit : tie.Need-element-copy-out-set-digit Inv-loop μ-loop
-element-copy-out-set-digit c = omega (arith, c .before .before .before .before .before .before .before .pre .0 .few)
+element-copy-out-set-digit c = omega (arith, c .before .before .before .before .before .before .before .before .before .pre .0 .few)
 
 mul-set-digit-2 : tie.Need-mul-set-digit-2 Inv-loop μ-loop
-mul-set-digit-2 c = omega (arith, c .before .before .before .before .before .before .before .before .pre .0 .few)
+mul-set-digit-2 c = omega (arith, c .before .before .before .before .before .before .before .before .before .before .pre .0 .few)
 
 element-copy-out-set-digit-2 : tie.Need-element-copy-out-set-digit-2 Inv-loop μ-loop
-element-copy-out-set-digit-2 c = omega (arith, c .before .before .before .before .before .before .before .before .pre .0 .few)
+element-copy-out-set-digit-2 c = omega (arith, c .before .before .before .before .before .before .before .before .before .before .pre .0 .few)
 
 set-digit-requires : tie.Need-set-digit-requires Inv-loop μ-loop
 set-digit-requires c κs = (omega arith, c .before .before .before .before .before .loop .inv .sized)
 
 add-j : tie.Need-add-j Inv-loop μ-loop
-add-j c = omega (arith, c .before .before .before .before .before .before .before .before .before .before .pre .0 .few)
+add-j c = omega (arith, c .before .before .before .before .before .before .before .before .before .before .before .before .pre .0 .few)
 
 loop-less : tie.Need-loop-less Inv-loop μ-loop
 loop-less c = search needs
 
 loop-again : tie.Need-loop-again Inv-loop μ-loop
 loop-again c =
-    let p = c .before .before .before .before .before .before .before .before .before .before .pre .0 in
+    let p = c .before .before .before .before .before .before .before .before .before .before .before .before .pre .0 in
     let t = c .before .before .before .before .before .loop-test .taken in
-    setting-more _ _ _ p _ _ _ _ _ _ _ t (c .set-digit .ensures) (c .before .before .before .before .before .before .loop .inv)
+    setting-more _ p _ _ _ _ _ _ _ t (c .set-digit .ensures) (c .before .before .before .before .before .before .loop .inv)
 
 returns : tie.Need-returns Inv-loop μ-loop
-returns c = setting-all _ _ _ (c .before .before .before .before .before .pre .0) _ _ _ _ _ (c .loop-test .left) (c .before .loop .inv)
+returns c = setting-all _ (c .before .before .before .before .before .before .before .pre .0) _ _ _ _ _ (c .loop-test .left) (c .before .loop .inv)
 
 pub set-words-spec : {M : Type 1} → statement M
 set-words-spec =

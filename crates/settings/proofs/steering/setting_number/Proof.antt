@@ -9,10 +9,10 @@ use Rattle.settings.proofs.steering.setting_number.Statement.{statement
 use Rattle.settings.proofs.steering.setting_number.Tie as tie
 
 abbrev Inv-loop : tie.InvT-loop
-Inv-loop bits known segments places k n₀ j₀ n j = Numbered segments places k (lookIn bits known) j n
+Inv-loop bits known pb n₀ j₀ n j = Numbered (pb .segments) (pb .places) (pb .width) (lookIn bits known) j n
 
 abbrev μ-loop : tie.MeasureT-loop
-μ-loop bits known segments places k n₀ j₀ n j = j
+μ-loop bits known pb n₀ j₀ n j = j
 
 loop-holds : tie.Need-loop-holds Inv-loop μ-loop
 loop-holds c = numbered-none _ _ _ (c .pre .few) _

@@ -1,11 +1,11 @@
--- `spread::setting_count` meets its contract.
+-- `route::setting_count` meets its contract.
 -- Assumes nothing.
 use mathlib.Core.Path.{sym, ap}
 use Prim.Native.Nat.{ℕ, _^_}
 use native.Mathlib.Omega.{arith}
 use borrow.Author.Needs.{needs}
-use Rattle.layers.proofs.spread.setting_count.Statement.{statement}
-use Rattle.layers.proofs.spread.setting_count.Tie as tie
+use Rattle.settings.proofs.route.setting_count.Statement.{statement}
+use Rattle.settings.proofs.route.setting_count.Tie as tie
 
 returns : tie.Need-returns
 returns c = (ap (λ (n : ℕ). 3 ^ n) (sym (c .if1 .taken)), omega arith)
