@@ -1,4 +1,4 @@
--- Laws of the network that the arrays hold: its steering bits and settings by the count k, and the rows written as rows of it.
+-- Laws of the network that the arrays hold: its steering bits and settings by their count, and the rows written as rows of it.
 -- Assumes nothing.
 use mathlib.Core.Path.{_≡_, sym, ap, _∙_}
 use mathlib.Core.List.{List}
@@ -6,18 +6,18 @@ use Prim.Native.Nat.{ℕ, _^_, _≤_, _<_}
 use native.Mathlib.Omega.{arith}
 use lib.ListN.{length}
 use Rattle.model.specs.Network.{Network, steeringBits}
-use Rattle.network.specs.declared.draft.Tally.{Tally}
 use Rattle.search.specs.Moves.{land}
 use Rattle.search.proofs.MoveLaws.{settings-within, land-within}
+use Rattle.settings.specs.declared.steering.Problem.{Problem}
 use Rattle.settings.specs.Route.{Prepared}
 use Rattle.settings.specs.Rows.{rowNumber, RowsRight, Lands}
 use Rattle.settings.proofs.Listing.{length-bits}
 
 module _ (net : Network) (ns steering : List ℕ) (pb : Problem) (p : Prepared net ns steering pb) where
-  pub bits-count : length (steeringBits (net .nodes)) ≡ k
-  bits-count = ap length (sym (p .bits-are)) ∙ length-bits segments places k
+  pub bits-count : length (steeringBits (net .nodes)) ≡ pb .width
+  bits-count = ap length (sym (p .bits-are)) ∙ length-bits (pb .segments) (pb .places) (pb .width)
 
-  pub settings-count : 3 ^ length (steeringBits (net .nodes)) ≡ 3 ^ k
+  pub settings-count : 3 ^ length (steeringBits (net .nodes)) ≡ 3 ^ pb .width
   settings-count = ap (λ (n : ℕ). 3 ^ n) bits-count
 
   pub few-settings : 3 ^ length (steeringBits (net .nodes)) ≤ 729

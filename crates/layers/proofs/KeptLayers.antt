@@ -37,9 +37,9 @@ module _ (net : Network) (start d : ℕ) (old : List ℕ) (most : d ≤ 16) wher
   pub kept-last : (i : ℕ) (tab : List ℕ) → d ≡ suc i → Met net start old d → (SlotKnown net old i → Filtered (M .goal) i old tab) → KeptFrom net start d i old tab
   kept-last i tab z met f₀ = record {
     kept = kept;
-    before = λ n lt. f .others n (inl lt);
-    size = f .size;
-    beyond = λ n le. f .others n (inr (omega arith));
+    before = λ n lt. f .only .others n (inl lt);
+    size = f .only .size;
+    beyond = λ n le. f .only .others n (inr (omega arith));
   }
     where
       f : Filtered (M .goal) i old tab
@@ -77,9 +77,9 @@ module _ (net : Network) (start d : ℕ) (old : List ℕ) (most : d ≤ 16) wher
     pub kept-next : (tab′ : List ℕ) → (SlotKnown net tab i → Filtered (enters net tab (i + 1)) i tab tab′) → KeptFrom net start d i old tab′
     kept-next tab′ f₀ = record {
       kept = kept;
-      before = λ n less. f .others n (inl less) ∙ h .before n (omega arith);
-      size = f .size ∙ h .size;
-      beyond = λ n le. f .others n (inr (omega arith)) ∙ h .beyond n le;
+      before = λ n less. f .only .others n (inl less) ∙ h .before n (omega arith);
+      size = f .only .size ∙ h .size;
+      beyond = λ n le. f .only .others n (inr (omega arith)) ∙ h .beyond n le;
     }
       where
         f : Filtered (enters net tab k) i tab tab′
@@ -100,7 +100,7 @@ module _ (net : Network) (start d : ℕ) (old : List ℕ) (most : d ≤ 16) wher
             elim (decLt k j) [
               | yes p ↦
                   let y : j ≡ suc (j - 1) = omega arith in
-                  layer-slot start tab′ (j - 1) j s y ∙ slot-other tab tab′ i (j - 1) s (f .others) (λ e. omega arith) ∙ sym (layer-slot start tab (j - 1) j s y) ∙ h .kept j s p le
+                  layer-slot start tab′ (j - 1) j s y ∙ slot-other tab tab′ i (j - 1) s (f .only .others) (λ e. omega arith) ∙ sym (layer-slot start tab (j - 1) j s y) ∙ h .kept j s p le
               | no p ↦
                   let y : j ≡ k = omega arith in
                   ap (λ (q : ℕ). layersOf start tab′ q s) y ∙ first s ∙ ap (λ (q : ℕ). layersOf start old q s && can M (d - q) s) (sym y)

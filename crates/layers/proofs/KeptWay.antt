@@ -16,11 +16,11 @@ use Rattle.model.specs.NetworkText.{isSome}
 use Rattle.model.specs.Calls.{writeOver}
 use Rattle.model.proofs.Lists.{and-parts, some-same, none-some}
 use Rattle.path.specs.Layout.{wordBit}
-use Rattle.network.specs.declared.draft.Tally.{Tally}
 use Rattle.search.specs.Search.{Sys, planIn, ifGoal, FirstAt}
 use Rattle.search.specs.Moves.{count, gain, land, reached, goes, sysOf}
 use Rattle.search.specs.Layers.{can}
 use Rattle.search.proofs.Forward.{Traced, trace-step, least-plan, useful-next}
+use Rattle.settings.specs.declared.steering.Problem.{Problem}
 use Rattle.settings.specs.Route.{Prepared}
 use Rattle.settings.specs.Rows.{rowNumber, RowsRight, LandsIn, LandsOf}
 use Rattle.layers.specs.Table.{layersOf}

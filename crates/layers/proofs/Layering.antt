@@ -22,11 +22,19 @@ use Rattle.search.specs.Moves.{allOf, count, gain, reached, sysOf}
 use Rattle.search.specs.Layers.{Earlier, Layers}
 use Rattle.search.proofs.Forward.{earlier-same, stepped-same, layers-same, layers-start, layers-next, layers-empty, nothing-up-to}
 use Rattle.search.proofs.MoveLaws.{gain-within, land-within}
-use Rattle.layers.specs.Table.{inSlot, inSeen, layersOf, Others, Known, SlotKnown, Forward}
+use Rattle.layers.specs.Table.{inSlot, inSeen, layersOf, Others, Known, SlotKnown}
 use Rattle.layers.specs.Spreading.{Spread, Next, SetsIn, GoalIn, Met}
 use Rattle.layers.specs.Plans.{Starts}
 use Rattle.layers.proofs.SetLaws.{together-small, and-false}
 use Rattle.layers.proofs.SlotLaws.{slot-beyond, slot-other}
+
+-- the search has come to layer i: no layer so far has a goal, and the slots from i on are empty
+pub record Forward (net : Network) (start i : ℕ) (tab seen : List ℕ) : Type 0 where
+  pub layers : Layers (sysOf net) start (layersOf start tab) i
+  pub goalless : (s : ℕ) → layersOf start tab i s ≡ true → sysOf net .goal s ≡ false
+  pub met : (s : ℕ) → inSeen seen s ≡ true → Earlier (layersOf start tab) i s
+  pub known : Known net start tab i
+  pub empty : (j s : ℕ) → i ≤ j → j < 16 → inSlot tab j s ≡ false
 
 -- ---- slots that are empty, and layers that stay
 
@@ -94,7 +102,7 @@ module _ (net : Network) (start full : ℕ) (starts : Starts net start full) (ta
 module _ (net : Network) (accepted : Accepted net) (start i : ℕ) (less : i < 16) (tab seen tab′ seen′ : List ℕ)
     (f : Forward net start i tab seen) (p : Spread (Next net start tab i) i tab seen tab′ seen′) where
   same : (j s : ℕ) → j ≤ i → layersOf start tab′ j s ≡ layersOf start tab j s
-  same = layer-same start i tab tab′ (p .others)
+  same = layer-same start i tab tab′ (p .only .others)
 
   -- the states of slot i are those that an operation leads to from layer i
   came : (s : ℕ) → inSlot tab′ i s ≡ true → Next net start tab i s
@@ -150,7 +158,7 @@ module _ (net : Network) (accepted : Accepted net) (start i : ℕ) (less : i < 1
         goalless = g slot-known .no-goal e;
         met = met;
         known = known;
-        empty = λ j s le lt. slot-other tab tab′ i j s (p .others) (λ z. omega arith) ∙ f .empty j s (omega arith) lt;
+        empty = λ j s le lt. slot-other tab tab′ i j s (p .only .others) (λ z. omega arith) ∙ f .empty j s (omega arith) lt;
       })
 
   -- the layer has one
@@ -181,7 +189,7 @@ module _ (net : Network) (accepted : Accepted net) (start i : ℕ) (less : i < 1
       empty-slot : (j s : ℕ) → i ≤ j → j < 16 → inSlot tab′ j s ≡ false
       empty-slot j s le lt =
           elim (decLt i j) [
-            | yes h ↦ slot-other tab tab′ i j s (p .others) (λ z. omega arith) ∙ f .empty j s (omega arith) lt
+            | yes h ↦ slot-other tab tab′ i j s (p .only .others) (λ z. omega arith) ∙ f .empty j s (omega arith) lt
             | no h ↦ let z : j ≡ i = omega arith in rw z (off (inSlot tab′ i s) refl)
           ]
         where

@@ -6,9 +6,9 @@ use Prim.Native.Nat.{ℕ, _<_}
 use native.Mathlib.Omega.{arith}
 use lib.ListN.{getD}
 use Rattle.model.specs.Network.{Network}
-use Rattle.network.specs.declared.draft.Tally.{Tally}
 use Rattle.search.specs.Moves.{gain, land}
 use Rattle.search.proofs.MoveLaws.{gain-within}
+use Rattle.settings.specs.declared.steering.Problem.{Problem}
 use Rattle.settings.specs.Route.{Prepared, Plannable}
 use Rattle.settings.specs.Rows.{rowNumber, RowsRight, Lands, Landing, LandsIn, LandsOf}
 use Rattle.layers.proofs.Bounds.{lands-small, row-lands}

@@ -113,7 +113,7 @@ module _ (test : ℕ → Bool) (i x : ℕ) (tab tab′ : List ℕ) (h : Filterin
 
   -- the settings from x on are none of the slot's
   pub filtering-all : length tab′ ≡ length tab → ((s : ℕ) → inSlot tab i s ≡ true → s / 16 < x) → Filtered test i tab tab′
-  filtering-all size known = record { slot = slot; others = h .others; size = size }
+  filtering-all size known = record { slot = slot; only = record { others = h .others; size = size } }
     where
       empty : (s : ℕ) → (s / 16 < x → ⊥) → (t : Bool) → inSlot tab i s ≡ t → t ≡ (t && test s)
       empty s ge true e = absurd (ge (known s e))

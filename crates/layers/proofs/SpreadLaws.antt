@@ -19,7 +19,7 @@ use Rattle.network.proofs.Nodes.{wordBit-or, or-false}
 use Rattle.search.specs.Moves.{count, gain, land}
 use Rattle.layers.specs.Sets.{Joined}
 use Rattle.layers.specs.Table.{inSlot, inSeen, OutOfSlot}
-use Rattle.layers.specs.Spreading.{Spread, OnlySlot, AtSetting, Arrives, Leaves, SetsIn}
+use Rattle.layers.specs.Spreading.{Spread, AtSetting, Arrives, Leaves, SetsIn}
 use Rattle.layers.proofs.SetLaws.{or-cases, together-small}
 
 -- ---- nothing, and one after the other
@@ -31,8 +31,7 @@ spread-none P i tab seen off size = record {
   met = λ s e. inl e;
   seen-kept = λ s e. e;
   slot-kept = λ s e. e;
-  others = λ n o. refl;
-  size = refl;
+  only = record { others = λ n o. refl; size = refl };
   seen-size = size;
 }
 
@@ -44,8 +43,7 @@ spread-more P Q R i tab seen tab′ seen′ tab″ seen″ parts first second p 
   met = λ s e. met s (q .met s e);
   seen-kept = λ s e. q .seen-kept s (p .seen-kept s e);
   slot-kept = λ s e. q .slot-kept s (p .slot-kept s e);
-  others = λ n o. q .others n o ∙ p .others n o;
-  size = q .size ∙ p .size;
+  only = record { others = λ n o. q .only .others n o ∙ p .only .others n o; size = q .only .size ∙ p .only .size };
   seen-size = q .seen-size;
 }
   where
@@ -73,9 +71,6 @@ spread-more P Q R i tab seen tab′ seen′ tab″ seen″ parts first second p 
 pub spread-at : (P : ℕ → Type 0) (i : ℕ) (tab seen tab′ seen′ new newSeen : List ℕ) → new ≡ tab′ → newSeen ≡ seen′ → Spread P i tab seen tab′ seen′ → Spread P i tab seen new newSeen
 spread-at P i tab seen tab′ seen′ new newSeen a b p = rw (a, b) p
 
-pub only-slot : (i : ℕ) (tab seen tab′ seen′ : List ℕ) (P : ℕ → Type 0) → Spread P i tab seen tab′ seen′ → OnlySlot i tab tab′ seen′
-only-slot i tab seen tab′ seen′ P p = record { others = p .others; size = p .size; seen-size = p .seen-size }
-
 -- the same states, told otherwise
 pub spread-as : (P R : ℕ → Type 0) (i : ℕ) (tab seen tab′ seen′ : List ℕ) → ((s : ℕ) → P s → R s) → ((s : ℕ) → R s → P s) → Spread P i tab seen tab′ seen′ → Spread R i tab seen tab′ seen′
 spread-as P R i tab seen tab′ seen′ to from p = record {
@@ -84,8 +79,7 @@ spread-as P R i tab seen tab′ seen′ to from p = record {
   met = p .met;
   seen-kept = p .seen-kept;
   slot-kept = p .slot-kept;
-  others = p .others;
-  size = p .size;
+  only = p .only;
   seen-size = p .seen-size;
 }
   where
@@ -111,8 +105,7 @@ arrive-met i y got tab seen size same = record {
   met = λ s e. inl e;
   seen-kept = λ s e. e;
   slot-kept = λ s e. e;
-  others = λ n o. refl;
-  size = refl;
+  only = record { others = λ n o. refl; size = refl };
   seen-size = size;
 }
   where
@@ -154,8 +147,10 @@ module _ (i y got : ℕ) (tab seen : List ℕ) (room : 11664 ≤ length tab) (si
     met = met;
     seen-kept = λ s e. seen-is s ∙ or-left (inSeen seen s) (here s) e;
     slot-kept = slot-kept;
-    others = λ n o. getD-set-other tab (i * 729 + y) n (bitOr (getD tab (i * 729 + y) 0) got) 0 (away n o);
-    size = length-set tab (i * 729 + y) (bitOr (getD tab (i * 729 + y) 0) got);
+    only = record {
+      others = λ n o. getD-set-other tab (i * 729 + y) n (bitOr (getD tab (i * 729 + y) 0) got) 0 (away n o);
+      size = length-set tab (i * 729 + y) (bitOr (getD tab (i * 729 + y) 0) got);
+    };
     seen-size = length-set seen y (bitOr (getD seen y 0) got) ∙ size;
   }
     where

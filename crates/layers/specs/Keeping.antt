@@ -9,14 +9,13 @@ use Rattle.model.specs.Network.{Network}
 use Rattle.path.specs.Layout.{wordBit}
 use Rattle.search.specs.Moves.{sysOf}
 use Rattle.search.specs.Layers.{can, someOf}
-use Rattle.layers.specs.Table.{inSlot, layersOf, Others}
+use Rattle.layers.specs.Table.{inSlot, layersOf, OnlySlot}
 use Rattle.layers.specs.Spreading.{Met}
 
 -- slot i with the states that pass the test
 pub record Filtered (test : ℕ → Bool) (i : ℕ) (tab tab′ : List ℕ) : Type 0 where
   pub slot : (s : ℕ) → inSlot tab′ i s ≡ (inSlot tab i s && test s)
-  pub others : Others i tab tab′
-  pub size : length tab′ ≡ length tab
+  pub only : OnlySlot i tab tab′
 
 -- of sets, those with which setting x passes the test
 abbrev pub FilteredSets : (ℕ → Bool) → ℕ → ℕ → ℕ → Type 0

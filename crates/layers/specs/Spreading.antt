@@ -13,13 +13,7 @@ use Rattle.path.specs.Layout.{wordBit}
 use Rattle.search.specs.Search.{planUpTo}
 use Rattle.search.specs.Moves.{count, reached, goes, sysOf}
 use Rattle.search.specs.Layers.{Layers, Stepped}
-use Rattle.layers.specs.Table.{inSlot, inSeen, layersOf, Others, Known}
-
--- of the table, only slot i may have changed
-pub record OnlySlot (i : ℕ) (tab tab′ seen′ : List ℕ) : Type 0 where
-  pub others : Others i tab tab′
-  pub size : length tab′ ≡ length tab
-  pub seen-size : length seen′ ≡ 729
+use Rattle.layers.specs.Table.{inSlot, inSeen, layersOf, OnlySlot, Known}
 
 -- slot i and the states met, with each state of P besides that had not been met
 pub record Spread (P : ℕ → Type 0) (i : ℕ) (tab seen tab′ seen′ : List ℕ) : Type 0 where
@@ -28,7 +22,8 @@ pub record Spread (P : ℕ → Type 0) (i : ℕ) (tab seen tab′ seen′ : List
   pub met : (s : ℕ) → inSeen seen′ s ≡ true → (inSeen seen s ≡ true) ⊎ (inSlot tab′ i s ≡ true)
   pub seen-kept : (s : ℕ) → inSeen seen s ≡ true → inSeen seen′ s ≡ true
   pub slot-kept : (s : ℕ) → inSlot tab i s ≡ true → inSlot tab′ i s ≡ true
-  pub only : OnlySlot i tab tab′ seen′
+  pub only : OnlySlot i tab tab′
+  pub seen-size : length seen′ ≡ 729
 
 -- a state of setting y with a set of got
 pub record AtSetting (y got s : ℕ) : Type 0 where

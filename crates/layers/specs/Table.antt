@@ -32,6 +32,11 @@ OutOfSlot i n = (n < i * 729) ⊎ (i * 729 + 729 ≤ n)
 abbrev pub Others : ℕ → List ℕ → List ℕ → Type 0
 Others i old new = (n : ℕ) → OutOfSlot i n → getD new n 0 ≡ getD old n 0
 
+-- of the table, only slot i may have changed
+pub record OnlySlot (i : ℕ) (old new : List ℕ) : Type 0 where
+  pub others : Others i old new
+  pub size : length new ≡ length old
+
 -- state s is of a setting of the network
 abbrev pub OfSetting : Network → ℕ → Type 0
 OfSetting net s = s / 16 < 3 ^ length (steeringBits (net .nodes))

@@ -18,8 +18,8 @@ ghost use Prim.Native.Nat.{ℕ, _*_, _^_, _≤_, _<_};
 ghost use lib.ListN.{length, getD};
 ghost use Rattle.settings.specs.Route.{Plannable, Each};
 ghost use Rattle.settings.specs.Rows.{RowsRight};
-ghost use Rattle.layers.specs.Table.{Known};
-ghost use Rattle.layers.specs.Spreading.{Spread, OnlySlot, AtSetting, Arrives, Leaves, Next, SetsIn, Met};
+ghost use Rattle.layers.specs.Table.{OnlySlot, Known};
+ghost use Rattle.layers.specs.Spreading.{Spread, AtSetting, Arrives, Leaves, Next, SetsIn, Met};
 ghost use Rattle.layers.specs.Plans.{Starts};
 
 // The states met, a set of sets of targets for each setting.
@@ -96,7 +96,7 @@ fn spread_layer<'a>(
     requires { ⌜ RowsRight (now nodes) (now steering) problem (now rows) ⌝ }
     requires { ⌜ (11664 ≤ length (now table)) × (length (now seen) ≡ 729) × (start < 729) × (i < 16) ⌝ }
     ensures { λ _. ⌜ RowsRight (now (nodes .entry)) (now (steering .entry)) problem (now (rows .exit)) ⌝ }
-    ensures { λ _. ⌜ OnlySlot i (now (table .entry)) (now (table .exit)) (now (seen .exit)) ⌝ }
+    ensures { λ _. ⌜ OnlySlot i (now (table .entry)) (now (table .exit)) × (length (now (seen .exit)) ≡ 729) ⌝ }
     ensures { λ _. ⌜ Each (now (nodes .entry)) (now (steering .entry)) problem (λ net. Known net (start * 16) (now (table .entry)) i → Spread (Next net (start * 16) (now (table .entry)) i) i (now (table .entry)) (now (seen .entry)) (now (table .exit)) (now (seen .exit))) ⌝ }
     ensures { λ r. ⌜ Each (now (nodes .entry)) (now (steering .entry)) problem (λ net. Known net (start * 16) (now (table .entry)) i → SetsIn (Next net (start * 16) (now (table .entry)) i) r) ⌝ }
 {

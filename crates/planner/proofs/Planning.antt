@@ -12,7 +12,6 @@ use Rattle.model.specs.Calls.{writeOver, searchEntries}
 use Rattle.model.proofs.Lists.{length-tabulate}
 use Rattle.path.specs.Layout.{nodesOf, lookIn}
 use Rattle.plan_text.proofs.Writing.{over-none}
-use Rattle.network.specs.declared.draft.Tally.{Tally}
 use Rattle.network.specs.declared.reader.Network.{Network}
 use Rattle.network.specs.Draws.{targetAt}
 use Rattle.network.specs.Reads.{networkOf}

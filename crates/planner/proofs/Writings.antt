@@ -12,7 +12,6 @@ use Rattle.path.specs.Layout.{scanPath}
 use Rattle.path.specs.Answers.{HoldsPath, Holds, told}
 use Rattle.path.specs.declared.walk.Walked.{Walked}
 use Rattle.path.specs.declared.walk.Walked.the-variants.{Path, Stop as Stopped}
-use Rattle.network.specs.declared.draft.Tally.{Tally}
 use Rattle.search.specs.Moves.{land, StepOf}
 use Rattle.search.specs.Settings.{walkAt}
 use Rattle.search.proofs.MoveLaws.{settings-within, path-short, land-within}

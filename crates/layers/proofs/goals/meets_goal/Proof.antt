@@ -14,7 +14,7 @@ returns : tie.Need-returns
 returns c =
     let s = c .before .before .before in (
       s .pre .1 .0,
-      λ net p all known sets. goal-not-come net (s .args .full) all (s .pre .1 .1 .0 .1) (s .args .table .now) (s .args .i) (s .args .came) sets
+      λ net p all known sets. goal-not-come net (s .args .full) all (s .pre .1 .1 .1) (s .args .table .now) (s .args .i) (s .args .came) sets
           (sym (c .before .has .ensures) ∙ not-true (c .before .has .result) (c .if1 .taken)),
     )
 

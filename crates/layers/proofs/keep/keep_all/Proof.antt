@@ -7,7 +7,7 @@ use mathlib.Core.List.{List}
 use native.Mathlib.Omega.{arith}
 use lib.ListN.{length}
 use Rattle.settings.specs.Rows.{RowsRight}
-use Rattle.layers.specs.Table.{Each}
+use Rattle.settings.specs.Route.{Each}
 use Rattle.layers.specs.Spreading.{Met}
 use Rattle.layers.proofs.KeptLayers.{KeptFrom, kept-last, kept-next, kept-all}
 use borrow.Author.Needs.{needs}
@@ -15,23 +15,20 @@ use Rattle.layers.proofs.keep.keep_all.Statement.{statement}
 use Rattle.layers.proofs.keep.keep_all.Tie as tie
 
 abbrev Inv-loop : tie.InvT-loop
-Inv-loop nodes steering t segments places k rows₀ start full table₀ d end i₀ rows table i =
-    (i < d) × (length table ≡ length table₀) × RowsRight nodes steering t segments places k rows
-    × Each nodes steering t segments places k (λ net. (old : List ℕ) → Met net (start * 16) old d → KeptFrom net (start * 16) d i₀ old table₀ → KeptFrom net (start * 16) d i old table)
+Inv-loop nodes steering pb rows₀ start full table₀ d i₀ rows table i =
+    (i < d) × (length table ≡ length table₀) × RowsRight nodes steering pb rows
+    × Each nodes steering pb (λ net. (old : List ℕ) → Met net (start * 16) old d → KeptFrom net (start * 16) d i₀ old table₀ → KeptFrom net (start * 16) d i old table)
 
 abbrev μ-loop : tie.MeasureT-loop
-μ-loop nodes steering t segments places k rows₀ start full table₀ d end i₀ rows table i = i
-
-setting-count-requires : tie.Need-setting-count-requires Inv-loop μ-loop
-setting-count-requires c κs = c .before .pre .0 .1 .few
+μ-loop nodes steering pb rows₀ start full table₀ d i₀ rows table i = i
 
 sub-i : tie.Need-sub-i Inv-loop μ-loop
 sub-i c = search needs
 
 keep-goals-requires : tie.Need-keep-goals-requires Inv-loop μ-loop
 keep-goals-requires c κs =
-    let p = c .before .before .before .before in
-    (p .pre .0, (p .pre .1 .0, ((p .pre .1 .1 .0, p .pre .1 .1 .1, omega arith), c .before .before .setting-count .ensures)))
+    let p = c .before .before .before in
+    (p .pre .0, (p .pre .1 .0, (p .pre .1 .1 .0, p .pre .1 .1 .1, omega arith)))
 
 loop-holds : tie.Need-loop-holds Inv-loop μ-loop
 loop-holds c = (omega arith, refl, c .before .before .keep-goals .ensures .0, λ net q old met h. h)
@@ -41,22 +38,21 @@ sub-i-2 c = search needs
 
 keep-useful-requires : tie.Need-keep-useful-requires Inv-loop μ-loop
 keep-useful-requires c κs =
-    let p = c .before .before .before .before .before .before .before .before .before .before .before in
+    let p = c .before .before .before .before .before .before .before .before .before .before in
     let l = c .before .before .before .loop in
-    let long = c .before .before .before .before .before .before .keep-goals .kept .1 .1 .1 .1 .1 .1 .1 .1 .1 .0 in
-    let n = c .before .before .before .before .before .before .before .before .before .setting-count in
-    (p .pre .0, (l .inv .2, ((omega (arith, l .inv .1, long, p .pre .1 .1 .0), omega (arith, l .inv .0, p .pre .1 .1 .3)), n .ensures)))
+    let long = c .before .before .before .before .before .before .keep-goals .kept .1 .1 .1 .1 .1 .0 in
+    (p .pre .0, (l .inv .2, (omega (arith, l .inv .1, long, p .pre .1 .1 .0), omega (arith, l .inv .0, p .pre .1 .1 .3))))
 
 loop-less : tie.Need-loop-less Inv-loop μ-loop
 loop-less c = search needs
 
 loop-again : tie.Need-loop-again Inv-loop μ-loop
 loop-again c =
-    let p = c .before .before .before .before .before .before .before .before .before .before .before .before .before .before in
+    let p = c .before .before .before .before .before .before .before .before .before .before .before .before .before in
     let l = c .before .before .before .before .before .before .loop in
     let u = c .before .before .keep-useful in (
       omega (arith, l .inv .0),
-      u .kept .1 .1 .1 .1 .1 .1 .1 .1 .0 ∙ l .inv .1,
+      u .kept .1 .1 .1 .1 .0 ∙ l .inv .1,
       u .ensures .0,
       λ net q old met h.
           kept-next net (p .args .start * 16) (p .args .d) old (p .pre .1 .1 .3) (l .i - 1) (l .i) (l .table) (omega arith) (l .inv .0) met (l .inv .3 net q old met h)
@@ -64,11 +60,11 @@ loop-again c =
     )
 
 same-length : tie.Need-same-length Inv-loop μ-loop
-same-length c = c .before .loop .inv .1 ∙ c .before .before .before .before .keep-goals .kept .1 .1 .1 .1 .1 .1 .1 .1 .1 .0
+same-length c = c .before .loop .inv .1 ∙ c .before .before .before .before .keep-goals .kept .1 .1 .1 .1 .1 .0
 
 returns : tie.Need-returns Inv-loop μ-loop
 returns c =
-    let p = c .before .before .before .before .before .before .before .before .before in
+    let p = c .before .before .before .before .before .before .before .before in
     let l = c .before .loop in
     let g = c .before .before .before .before .keep-goals in
     let most = p .pre .1 .1 .3 in (
@@ -84,7 +80,6 @@ keep-all-spec =
     (tie.spec
     Inv-loop
     μ-loop
-    setting-count-requires
     sub-i
     keep-goals-requires
     loop-holds

@@ -6,7 +6,7 @@ use native.Mathlib.Omega.{arith}
 use lib.ListN.{length, length-set}
 use Rattle.search.specs.Moves.{allOf, sysOf}
 use Rattle.settings.specs.Rows.{RowsRight}
-use Rattle.layers.specs.Table.{Each}
+use Rattle.settings.specs.Route.{Each}
 use Rattle.layers.proofs.SlotLaws.{Filtering, filtering-none, filtering-more, filtering-all}
 use Rattle.layers.proofs.Bounds.{settings-count}
 use borrow.Author.Needs.{needs}
@@ -14,15 +14,18 @@ use Rattle.layers.proofs.keep.keep_goals.Statement.{statement}
 use Rattle.layers.proofs.keep.keep_goals.Tie as tie
 
 abbrev Inv-loop : tie.InvT-loop
-Inv-loop nodes steering t segments places k rows₀ full end table₀ i x₀ rows table x =
-    (x ≤ end) × (length table ≡ length table₀) × RowsRight nodes steering t segments places k rows
-    × Each nodes steering t segments places k (λ net. full ≡ allOf (net .targets) → Filtering (sysOf net .goal) i x table₀ table)
+Inv-loop nodes steering pb rows₀ full table₀ i end x₀ rows table x =
+    (x ≤ end) × (length table ≡ length table₀) × RowsRight nodes steering pb rows
+    × Each nodes steering pb (λ net. full ≡ allOf (net .targets) → Filtering (sysOf net .goal) i x table₀ table)
 
 abbrev μ-loop : tie.MeasureT-loop
-μ-loop nodes steering t segments places k rows₀ full end table₀ i x₀ rows table x = end - x
+μ-loop nodes steering pb rows₀ full table₀ i end x₀ rows table x = end - x
+
+setting-count-requires : tie.Need-setting-count-requires Inv-loop μ-loop
+setting-count-requires c κs = c .before .pre .0 .1 .few
 
 loop-holds : tie.Need-loop-holds Inv-loop μ-loop
-loop-holds c = (search needs, refl, c .before .pre .1 .0, λ net q all. filtering-none (sysOf net .goal) _ _)
+loop-holds c = (search needs, refl, c .before .before .pre .1 .0, λ net q all. filtering-none (sysOf net .goal) _ _)
 
 mul-sets : tie.Need-mul-sets Inv-loop μ-loop
 mul-sets c = search needs
@@ -39,7 +42,7 @@ slice-read-sets c = search needs
 goal-sets-requires : tie.Need-goal-sets-requires Inv-loop μ-loop
 goal-sets-requires c κs =
     let l = c .before .before .before .loop in
-    let p = c .before .before .before .before .before in
+    let p = c .before .before .before .before .before .before in
     (p .pre .0, (l .inv .2, (omega arith, omega arith)))
 
 mul-table : tie.Need-mul-table Inv-loop μ-loop
@@ -63,7 +66,7 @@ loop-less c = search needs
 loop-again : tie.Need-loop-again Inv-loop μ-loop
 loop-again c =
     let l = c .before .before .before .before .loop in
-    let p = c .before .before .before .before .before .before in
+    let p = c .before .before .before .before .before .before .before in
     let g = c .goal-sets in (
       search needs,
       simp length-set (l .inv .1),
@@ -77,10 +80,10 @@ same-length c = c .before .loop .inv .1
 returns : tie.Need-returns Inv-loop μ-loop
 returns c =
     let l = c .before .loop in
-    let p = c .before .before .before in (
+    let p = c .before .before .before .before in (
       l .inv .2,
       λ net q all known. filtering-all (sysOf net .goal) (p .args .i) (l .x) _ (l .table) (l .inv .3 net q all) (l .inv .1)
-          (λ s e. omega (arith, known s e, settings-count net _ _ _ _ _ _ q)),
+          (λ s e. omega (arith, known s e, settings-count net _ _ _ q)),
     )
 
 pub keep-goals-spec : {M : Type 1} → statement M
@@ -89,6 +92,7 @@ keep-goals-spec =
     (tie.spec
     Inv-loop
     μ-loop
+    setting-count-requires
     loop-holds
     mul-sets
     add-sets

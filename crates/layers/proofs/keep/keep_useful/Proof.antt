@@ -6,7 +6,7 @@ use mathlib.Core.Logic.{⊎-elim}
 use native.Mathlib.Omega.{arith}
 use lib.ListN.{length, length-set}
 use Rattle.settings.specs.Rows.{RowsRight}
-use Rattle.layers.specs.Table.{Each}
+use Rattle.settings.specs.Route.{Each}
 use Rattle.layers.specs.Keeping.{enters}
 use Rattle.layers.proofs.SlotLaws.{Filtering, filtering-none, filtering-more, filtering-skip, filtering-all}
 use Rattle.layers.proofs.SetTests.{filtered-same}
@@ -16,16 +16,19 @@ use Rattle.layers.proofs.keep.keep_useful.Statement.{statement}
 use Rattle.layers.proofs.keep.keep_useful.Tie as tie
 
 abbrev Inv-loop : tie.InvT-loop
-Inv-loop nodes steering t segments places k rows₀ end table₀ i x₀ rows table x =
-    (x ≤ end) × (length table ≡ length table₀) × RowsRight nodes steering t segments places k rows
-    × Each nodes steering t segments places k (λ net. Filtering (enters net table₀ (i + 1)) i x table₀ table)
+Inv-loop nodes steering pb rows₀ table₀ i end x₀ rows table x =
+    (x ≤ end) × (length table ≡ length table₀) × RowsRight nodes steering pb rows
+    × Each nodes steering pb (λ net. Filtering (enters net table₀ (i + 1)) i x table₀ table)
 
 abbrev μ-loop : tie.MeasureT-loop
-μ-loop nodes steering t segments places k rows₀ end table₀ i x₀ rows table x = end - x
+μ-loop nodes steering pb rows₀ table₀ i end x₀ rows table x = end - x
+
+setting-count-requires : tie.Need-setting-count-requires Inv-loop μ-loop
+setting-count-requires c κs = c .before .pre .0 .1 .few
 
 loop-holds : tie.Need-loop-holds Inv-loop μ-loop
 loop-holds c =
-    let p = c .before in
+    let p = c .before .before in
     (search needs, refl, p .pre .1 .0, λ net q. filtering-none (enters net (p .args .table .now) (p .args .i + 1)) _ _)
 
 mul-sets : tie.Need-mul-sets Inv-loop μ-loop
@@ -46,7 +49,7 @@ add-useful-sets c = search needs
 useful-sets-requires : tie.Need-useful-sets-requires Inv-loop μ-loop
 useful-sets-requires c κs =
     let l = c .before .before .before .before .before .loop in
-    let p = c .before .before .before .before .before .before .before in
+    let p = c .before .before .before .before .before .before .before .before in
     (p .pre .0, (l .inv .2, (omega arith, omega arith, omega arith)))
 
 mul-table : tie.Need-mul-table Inv-loop μ-loop
@@ -70,7 +73,7 @@ loop-less c = search needs
 loop-again : tie.Need-loop-again Inv-loop μ-loop
 loop-again c =
     let l = c .before .before .before .loop in
-    let p = c .before .before .before .before .before in
+    let p = c .before .before .before .before .before .before in
     let old = p .args .table .now in
     ⊎-elim
     (λ w. (
@@ -99,10 +102,10 @@ same-length c = c .before .loop .inv .1
 returns : tie.Need-returns Inv-loop μ-loop
 returns c =
     let l = c .before .loop in
-    let p = c .before .before .before in (
+    let p = c .before .before .before .before in (
       l .inv .2,
       λ net q known. filtering-all (enters net (p .args .table .now) (p .args .i + 1)) (p .args .i) (l .x) _ (l .table) (l .inv .3 net q) (l .inv .1)
-          (λ s e. omega (arith, known s e, settings-count net _ _ _ _ _ _ q)),
+          (λ s e. omega (arith, known s e, settings-count net _ _ _ q)),
     )
 
 pub keep-useful-spec : {M : Type 1} → statement M
@@ -111,6 +114,7 @@ keep-useful-spec =
     (tie.spec
     Inv-loop
     μ-loop
+    setting-count-requires
     loop-holds
     mul-sets
     add-sets

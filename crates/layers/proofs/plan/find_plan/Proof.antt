@@ -53,7 +53,7 @@ abbrev began : tie.Else1 → tie.Start
 began a = a .before .before .before .before .before .before .before .before .before .before .before .before
 
 abbrev found : tie.Else1 → List ℕ
-found a = a .before .before .before .find-layer .last .1 .1 .1 .1 .1 .1 .1 .1 .1 .0
+found a = a .before .before .before .find-layer .last .1 .1 .1 .1 .1 .1 .0
 
 long : (a : tie.Else1) → 11664 ≤ length (found a)
 long a =
@@ -80,7 +80,7 @@ trace-requires c κs =
     let a = c .before .before .before .before .before .before .before .before in
     let p = began a in
     let k = c .before .before .before .before .before .keep-all in
-    let size : length (k .last .1 .1 .1 .1 .1 .1 .1 .1 .1 .0) ≡ length (found a) = k .kept .1 .1 .1 .1 .1 .1 .1 .1 .1 .0 in (
+    let size : length (k .last .1 .1 .1 .1 .1 .1 .0) ≡ length (found a) = k .kept .1 .1 .1 .1 .1 .1 .0 in (
       p .pre .0,
       (
         k .ensures .0,
@@ -97,7 +97,7 @@ clear-requires-3 : tie.Need-clear-requires-3
 clear-requires-3 c κs =
     let a = c .before .before .before .before .before .before .before .before .before .before .before .before in
     let k = c .before .before .before .before .before .before .before .before .before .keep-all in
-    let size : length (k .last .1 .1 .1 .1 .1 .1 .1 .1 .1 .0) ≡ length (found a) = k .kept .1 .1 .1 .1 .1 .1 .1 .1 .1 .0 in
+    let size : length (k .last .1 .1 .1 .1 .1 .1 .0) ≡ length (found a) = k .kept .1 .1 .1 .1 .1 .1 .0 in
     omega (arith, size, long a)
 
 same-length-2 : tie.Need-same-length-2

@@ -7,20 +7,20 @@ use Prim.Native.Nat.{ℕ, _*_, _-_, _≤_, _<_}
 use native.Mathlib.Omega.{arith}
 use lib.ListN.{length, getD, set, replicate, length-set, length-replicate}
 use Rattle.settings.specs.Rows.{RowsRight}
-use Rattle.layers.specs.Table.{Each, Forward}
+use Rattle.settings.specs.Route.{Each}
 use Rattle.layers.specs.Plans.{Starts}
-use Rattle.layers.proofs.Layering.{seen-start, forward-start, slot-sets, forward-next, met-goal, met-empty, met-nothing}
+use Rattle.layers.proofs.Layering.{Forward, seen-start, forward-start, slot-sets, forward-next, met-goal, met-empty, met-nothing}
 use Rattle.layers.proofs.spread.find_layer.Statement.{statement}
 use Rattle.layers.proofs.spread.find_layer.Tie as tie
 
 abbrev Inv-loop : tie.InvT-loop
-Inv-loop nodes steering t segments places k rows₀ start full table₀ seen₀ end i₀ rows table seen i =
-    (i ≤ 16) × RowsRight nodes steering t segments places k rows
+Inv-loop nodes steering pb rows₀ start full table₀ seen₀ i₀ rows table seen i =
+    (i ≤ 16) × RowsRight nodes steering pb rows
     × ((length table ≡ length table₀) × ((n : ℕ) → 11664 ≤ n → getD table n 0 ≡ getD table₀ n 0) × (length seen ≡ 729))
-    × Each nodes steering t segments places k (λ net. Starts net start full → Forward net (start * 16) i table seen)
+    × Each nodes steering pb (λ net. Starts net start full → Forward net (start * 16) i table seen)
 
 abbrev μ-loop : tie.MeasureT-loop
-μ-loop nodes steering t segments places k rows₀ start full table₀ seen₀ end i₀ rows table seen i = 16 - i
+μ-loop nodes steering pb rows₀ start full table₀ seen₀ i₀ rows table seen i = 16 - i
 
 mul-seen : tie.Need-mul-seen Inv-loop μ-loop
 mul-seen c = omega (arith, c .before .pre)
@@ -28,12 +28,9 @@ mul-seen c = omega (arith, c .before .pre)
 array-write-seen : tie.Need-array-write-seen Inv-loop μ-loop
 array-write-seen c = c .before .pre .1 .1 .1 .0
 
-setting-count-requires : tie.Need-setting-count-requires Inv-loop μ-loop
-setting-count-requires c κs = c .before .pre .0 .1 .few
-
 loop-holds : tie.Need-loop-holds Inv-loop μ-loop
 loop-holds c =
-    let s = c .before .before in (
+    let s = c .before in (
       omega arith,
       s .pre .1 .0,
       (refl, λ n le. refl, length-set (replicate 729 0) (s .args .start) 1 ∙ length-replicate {A = ℕ} 729 0),
@@ -42,59 +39,59 @@ loop-holds c =
 
 spread-layer-requires : tie.Need-spread-layer-requires Inv-loop μ-loop
 spread-layer-requires c κs =
-    let s = c .before .before .before .before .before .before .before in
+    let s = c .before .before .before .before .before .before in
     let l = c .before .before .before .before .loop in
-    (s .pre .0, (l .inv .1, ((omega (arith, l .inv .2 .0, s .pre .1 .1 .0 .0), l .inv .2 .2, s .pre .1 .1 .1 .0, omega arith), c .before .before .before .before .before .setting-count .ensures)))
+    (s .pre .0, (l .inv .1, (omega (arith, l .inv .2 .0, s .pre .1 .1 .0 .0), l .inv .2 .2, s .pre .1 .1 .1 .0, omega arith)))
 
 same-length : tie.Need-same-length Inv-loop μ-loop
-same-length c = c .before .before .before .spread-layer .ensures .1 .0 .size ∙ c .before .before .before .before .before .before .before .before .loop .inv .2 .0
+same-length c = c .before .before .before .spread-layer .ensures .1 .0 .0 .size ∙ c .before .before .before .before .before .before .before .before .loop .inv .2 .0
 
 returns : tie.Need-returns Inv-loop μ-loop
 returns c =
-    let s = c .before .before .before .before .before .before .before .before .before .before .before in
+    let s = c .before .before .before .before .before .before .before .before .before .before in
     let l = c .before .before .before .before .before .before .before .before .loop in
     let less : l .i < 16 = omega (arith, c .before .before .before .before .before .before .before .loop-test .taken) in
     let a = c .before .before .before .spread-layer in (
       a .ensures .0,
       (
-        (a .ensures .1 .0 .size ∙ l .inv .2 .0, λ n le. a .ensures .1 .0 .others n (inr (omega arith)) ∙ l .inv .2 .1 n le),
+        (a .ensures .1 .0 .0 .size ∙ l .inv .2 .0, λ n le. a .ensures .1 .0 .0 .others n (inr (omega arith)) ∙ l .inv .2 .1 n le),
         λ net p st.
             let f = l .inv .3 net p st in
             let q = a .ensures .1 .1 .0 net p (f .known) in
-            let sets = slot-sets net (p .accepted) (s .args .start * 16) (l .i) less (l .table) (l .seen) (a .last .1 .1 .1 .1 .1 .1 .1 .1 .1 .0) (a .last .1 .1 .1 .1 .1 .1 .1 .1 .1 .1 .0) f q (a .result) (a .ensures .1 .1 .1 net p (f .known)) in
-            met-empty net (p .accepted) (s .args .start * 16) (l .i) less (l .table) (l .seen) (a .last .1 .1 .1 .1 .1 .1 .1 .1 .1 .0) (a .last .1 .1 .1 .1 .1 .1 .1 .1 .1 .1 .0) f q (rw (c .if1 .taken) at sets),
+            let sets = slot-sets net (p .accepted) (s .args .start * 16) (l .i) less (l .table) (l .seen) (a .last .1 .1 .1 .1 .1 .0) (a .last .1 .1 .1 .1 .1 .1 .0) f q (a .result) (a .ensures .1 .1 .1 net p (f .known)) in
+            met-empty net (p .accepted) (s .args .start * 16) (l .i) less (l .table) (l .seen) (a .last .1 .1 .1 .1 .1 .0) (a .last .1 .1 .1 .1 .1 .1 .0) f q (rw (c .if1 .taken) at sets),
       ),
     )
 
 meets-goal-requires : tie.Need-meets-goal-requires Inv-loop μ-loop
 meets-goal-requires c κs =
-    let s = c .before .before .before .before .before .before .before .before .before .before .before .before .before in
+    let s = c .before .before .before .before .before .before .before .before .before .before .before .before in
     let l = c .before .before .before .before .before .before .before .before .before .before .loop in
     let less : l .i < 16 = omega (arith, c .before .before .before .before .before .before .before .before .before .loop-test .taken) in
     let a = c .before .before .before .before .before .spread-layer in
-    (s .pre .0, (a .ensures .0, ((omega (arith, a .ensures .1 .0 .size, l .inv .2 .0, s .pre .1 .1 .0 .0), s .pre .1 .1 .1 .1, less), c .before .before .before .before .before .before .before .before .before .before .before .setting-count .ensures)))
+    (s .pre .0, (a .ensures .0, (omega (arith, a .ensures .1 .0 .0 .size, l .inv .2 .0, s .pre .1 .1 .0 .0), s .pre .1 .1 .1 .1, less)))
 
 add-result : tie.Need-add-result Inv-loop μ-loop
 add-result c = omega arith
 
 same-length-2 : tie.Need-same-length-2 Inv-loop μ-loop
-same-length-2 c = c .before .before .before .before .before .before .before .spread-layer .ensures .1 .0 .size ∙ c .before .before .before .before .before .before .before .before .before .before .before .before .loop .inv .2 .0
+same-length-2 c = c .before .before .before .before .before .before .before .spread-layer .ensures .1 .0 .0 .size ∙ c .before .before .before .before .before .before .before .before .before .before .before .before .loop .inv .2 .0
 
 returns-2 : tie.Need-returns-2 Inv-loop μ-loop
 returns-2 c =
-    let s = c .before .before .before .before .before .before .before .before .before .before .before .before .before .before .before in
+    let s = c .before .before .before .before .before .before .before .before .before .before .before .before .before .before in
     let l = c .before .before .before .before .before .before .before .before .before .before .before .before .loop in
     let less : l .i < 16 = omega (arith, c .before .before .before .before .before .before .before .before .before .before .before .loop-test .taken) in
     let a = c .before .before .before .before .before .before .before .spread-layer in
     let g = c .before .meets-goal in (
       g .ensures .0,
       (
-        (a .ensures .1 .0 .size ∙ l .inv .2 .0, λ n le. a .ensures .1 .0 .others n (inr (omega arith)) ∙ l .inv .2 .1 n le),
+        (a .ensures .1 .0 .0 .size ∙ l .inv .2 .0, λ n le. a .ensures .1 .0 .0 .others n (inr (omega arith)) ∙ l .inv .2 .1 n le),
         λ net p st.
             let f = l .inv .3 net p st in
             let q = a .ensures .1 .1 .0 net p (f .known) in
-            let sets = slot-sets net (p .accepted) (s .args .start * 16) (l .i) less (l .table) (l .seen) (a .last .1 .1 .1 .1 .1 .1 .1 .1 .1 .0) (a .last .1 .1 .1 .1 .1 .1 .1 .1 .1 .1 .0) f q (a .result) (a .ensures .1 .1 .1 net p (f .known)) in
-            met-goal net (p .accepted) (s .args .start * 16) (l .i) less (l .table) (l .seen) (a .last .1 .1 .1 .1 .1 .1 .1 .1 .1 .0) (a .last .1 .1 .1 .1 .1 .1 .1 .1 .1 .1 .0) f q (g .result) (λ known. g .ensures .1 net p (st .all) known sets) (c .if2 .taken),
+            let sets = slot-sets net (p .accepted) (s .args .start * 16) (l .i) less (l .table) (l .seen) (a .last .1 .1 .1 .1 .1 .0) (a .last .1 .1 .1 .1 .1 .1 .0) f q (a .result) (a .ensures .1 .1 .1 net p (f .known)) in
+            met-goal net (p .accepted) (s .args .start * 16) (l .i) less (l .table) (l .seen) (a .last .1 .1 .1 .1 .1 .0) (a .last .1 .1 .1 .1 .1 .1 .0) f q (g .result) (λ known. g .ensures .1 net p (st .all) known sets) (c .if2 .taken),
       ),
     )
 
@@ -106,19 +103,19 @@ loop-less c = omega arith
 
 loop-again : tie.Need-loop-again Inv-loop μ-loop
 loop-again c =
-    let s = c .before .before .before .before .before .before .before .before .before .before .before .before .before .before .before in
+    let s = c .before .before .before .before .before .before .before .before .before .before .before .before .before .before in
     let l = c .before .before .before .before .before .before .before .before .before .before .before .before .loop in
     let less : l .i < 16 = omega (arith, c .before .before .before .before .before .before .before .before .before .before .before .loop-test .taken) in
     let a = c .before .before .before .before .before .before .before .spread-layer in
     let g = c .before .meets-goal in (
       omega arith,
       g .ensures .0,
-      (a .ensures .1 .0 .size ∙ l .inv .2 .0, λ n le. a .ensures .1 .0 .others n (inr (omega arith)) ∙ l .inv .2 .1 n le, a .ensures .1 .0 .seen-size),
+      (a .ensures .1 .0 .0 .size ∙ l .inv .2 .0, λ n le. a .ensures .1 .0 .0 .others n (inr (omega arith)) ∙ l .inv .2 .1 n le, a .ensures .1 .0 .1),
       λ net p st.
           let f = l .inv .3 net p st in
           let q = a .ensures .1 .1 .0 net p (f .known) in
-          let sets = slot-sets net (p .accepted) (s .args .start * 16) (l .i) less (l .table) (l .seen) (a .last .1 .1 .1 .1 .1 .1 .1 .1 .1 .0) (a .last .1 .1 .1 .1 .1 .1 .1 .1 .1 .1 .0) f q (a .result) (a .ensures .1 .1 .1 net p (f .known)) in
-          forward-next net (p .accepted) (s .args .start * 16) (l .i) less (l .table) (l .seen) (a .last .1 .1 .1 .1 .1 .1 .1 .1 .1 .0) (a .last .1 .1 .1 .1 .1 .1 .1 .1 .1 .1 .0) f q (g .result) (λ known. g .ensures .1 net p (st .all) known sets) (c .if2 .left),
+          let sets = slot-sets net (p .accepted) (s .args .start * 16) (l .i) less (l .table) (l .seen) (a .last .1 .1 .1 .1 .1 .0) (a .last .1 .1 .1 .1 .1 .1 .0) f q (a .result) (a .ensures .1 .1 .1 net p (f .known)) in
+          forward-next net (p .accepted) (s .args .start * 16) (l .i) less (l .table) (l .seen) (a .last .1 .1 .1 .1 .1 .0) (a .last .1 .1 .1 .1 .1 .1 .0) f q (g .result) (λ known. g .ensures .1 net p (st .all) known sets) (c .if2 .left),
     )
 
 same-length-3 : tie.Need-same-length-3 Inv-loop μ-loop
@@ -126,7 +123,7 @@ same-length-3 c = c .before .loop .inv .2 .0
 
 returns-3 : tie.Need-returns-3 Inv-loop μ-loop
 returns-3 c =
-    let s = c .before .before .before .before in
+    let s = c .before .before .before in
     let l = c .before .loop in
     (l .inv .1, ((l .inv .2 .0, l .inv .2 .1), λ net p st. met-nothing net (s .args .start * 16) (l .i) (l .table) (l .seen) (omega arith) (l .inv .0) (l .inv .3 net p st)))
 
@@ -138,7 +135,6 @@ find-layer-spec =
     μ-loop
     mul-seen
     array-write-seen
-    setting-count-requires
     loop-holds
     spread-layer-requires
     same-length

@@ -32,7 +32,7 @@ arrive-requires : tie.Need-arrive-requires Inv-loop μ-loop
 arrive-requires c κs =
     let l = c .before .before .before .before .before .loop in
     let s = c .before .before .before .before .before .before .before in
-    (omega (arith, l .inv .1 .size, s .pre .0 .0), l .inv .1 .seen-size, omega (arith, c .wide .ensures, s .pre .1 (l .c) (omega arith)), s .pre .0 .3)
+    (omega (arith, l .inv .1 .only .size, s .pre .0 .0), l .inv .1 .seen-size, omega (arith, c .wide .ensures, s .pre .1 (l .c) (omega arith)), s .pre .0 .3)
 
 add-c : tie.Need-add-c Inv-loop μ-loop
 add-c c = omega arith
@@ -53,7 +53,7 @@ loop-again c =
     )
 
 same-length : tie.Need-same-length Inv-loop μ-loop
-same-length c = c .before .loop .inv .1 .size
+same-length c = c .before .loop .inv .1 .only .size
 
 returns : tie.Need-returns Inv-loop μ-loop
 returns c =

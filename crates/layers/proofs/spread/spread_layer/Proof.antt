@@ -7,34 +7,33 @@ use Prim.Native.Nat.{ℕ, _+_, _*_, _-_, _≤_}
 use native.Mathlib.Omega.{arith}
 use lib.ListN.{getD}
 use Rattle.model.specs.Network.{Network}
-use Rattle.settings.specs.Route.{Prepared}
+use Rattle.settings.specs.Route.{Prepared, Each}
 use Rattle.settings.specs.Rows.{RowsRight}
-use Rattle.layers.specs.Table.{Each}
 use Rattle.layers.specs.Spreading.{Spread, Leaves, SetsIn}
 use Rattle.layers.proofs.Bounds.{settings-count}
-use Rattle.layers.proofs.SpreadLaws.{spread-at, only-slot}
+use Rattle.layers.proofs.SpreadLaws.{spread-at}
 use Rattle.layers.proofs.Leaving.{LeftBelow, left-none, left-more, left-skip, left-all, left-start, sets-none, sets-more, sets-skip, sets-all, sets-start}
 use Rattle.layers.proofs.spread.spread_layer.Statement.{statement}
 use Rattle.layers.proofs.spread.spread_layer.Tie as tie
 
 abbrev Inv-loop : tie.InvT-loop
-Inv-loop nodes steering t segments places k rows₀ start end table₀ seen₀ i all₀ x₀ rows table seen all x =
-    (x ≤ end) × RowsRight nodes steering t segments places k rows
-    × Each nodes steering t segments places k (λ net. Spread (LeftBelow net table₀ (i - 1) x) i table₀ seen₀ table seen)
-    × Each nodes steering t segments places k (λ net. SetsIn (LeftBelow net table₀ (i - 1) x) all)
+Inv-loop nodes steering pb rows₀ start table₀ seen₀ i end all₀ x₀ rows table seen all x =
+    (x ≤ end) × RowsRight nodes steering pb rows
+    × Each nodes steering pb (λ net. Spread (LeftBelow net table₀ (i - 1) x) i table₀ seen₀ table seen)
+    × Each nodes steering pb (λ net. SetsIn (LeftBelow net table₀ (i - 1) x) all)
 
 abbrev μ-loop : tie.MeasureT-loop
-μ-loop nodes steering t segments places k rows₀ start end table₀ seen₀ i all₀ x₀ rows table seen all x = end - x
+μ-loop nodes steering pb rows₀ start table₀ seen₀ i end all₀ x₀ rows table seen all x = end - x
 
 spread-setting-requires : tie.Need-spread-setting-requires Inv-loop μ-loop
 spread-setting-requires c κs =
     let s = c .before .before .before .before .before in
-    (s .pre .0, (s .pre .1 .0, s .pre .1 .1 .0))
+    (s .pre .0, (s .pre .1 .0, s .pre .1 .1))
 
 same-length : tie.Need-same-length Inv-loop μ-loop
 same-length c =
     let s = c .before .before .before .before .before .before .before .before in
-    c .before .before .spread-setting .ensures .1 .0 (s .pre .0 .0) (s .pre .0 .1) .size
+    c .before .before .spread-setting .ensures .1 .0 (s .pre .0 .0) (s .pre .0 .1) .only .size
 
 returns : tie.Need-returns Inv-loop μ-loop
 returns c =
@@ -42,42 +41,45 @@ returns c =
     let r = c .before .before .spread-setting in (
       r .ensures .0,
       (
-        only-slot (s .args .i) (s .args .table .now) (s .args .seen .now) (r .last .1 .1 .1 .1 .1 .1 .1 .1 .1 .0) (r .last .1 .1 .1 .1 .1 .1 .1 .1 .1 .1 .0) (Leaves (s .pre .0 .0) (s .args .start) 1) (r .ensures .1 .0 (s .pre .0 .0) (s .pre .0 .1)),
+        (r .ensures .1 .0 (s .pre .0 .0) (s .pre .0 .1) .only, r .ensures .1 .0 (s .pre .0 .0) (s .pre .0 .1) .seen-size),
         (
-          λ net p known. left-start net (s .args .start) (s .args .table .now) (s .args .i) (s .args .seen .now) (r .last .1 .1 .1 .1 .1 .1 .1 .1 .1 .0) (r .last .1 .1 .1 .1 .1 .1 .1 .1 .1 .1 .0) (c .before .before .before .before .before .before .if1 .taken) (r .ensures .1 .0 net p),
+          λ net p known. left-start net (s .args .start) (s .args .table .now) (s .args .i) (s .args .seen .now) (r .last .1 .1 .1 .1 .1 .1 .0) (r .last .1 .1 .1 .1 .1 .1 .1 .0) (c .before .before .before .before .before .before .if1 .taken) (r .ensures .1 .0 net p),
           λ net p known. sets-start net (s .args .start) (s .args .table .now) (s .args .i) (r .result) (c .before .before .before .before .before .before .if1 .taken) (r .ensures .1 .1 net p),
         ),
       ),
     )
 
+setting-count-requires : tie.Need-setting-count-requires Inv-loop μ-loop
+setting-count-requires c κs = c .before .before .pre .0 .1 .few
+
 loop-holds : tie.Need-loop-holds Inv-loop μ-loop
 loop-holds c =
-    let s = c .before .before in
-    (omega arith, s .pre .1 .0, λ net p. left-none net (s .args .table .now) (s .args .i - 1) (s .args .i) (s .args .seen .now) (s .pre .1 .1 .0 .1), λ net p. sets-none net (s .args .table .now) (s .args .i - 1) 0)
+    let s = c .before .before .before in
+    (omega arith, s .pre .1 .0, λ net p. left-none net (s .args .table .now) (s .args .i - 1) (s .args .i) (s .args .seen .now) (s .pre .1 .1 .1), λ net p. sets-none net (s .args .table .now) (s .args .i - 1) 0)
 
 sub-sets : tie.Need-sub-sets Inv-loop μ-loop
 sub-sets c = omega arith
 
 mul-sets : tie.Need-mul-sets Inv-loop μ-loop
-mul-sets c = omega (arith, c .before .before .before .before .pre)
+mul-sets c = omega (arith, c .before .before .before .before .before .pre)
 
 add-sets : tie.Need-add-sets Inv-loop μ-loop
-add-sets c = omega (arith, c .before .before .before .before .pre)
+add-sets c = omega (arith, c .before .before .before .before .before .pre)
 
 mul-sets-2 : tie.Need-mul-sets-2 Inv-loop μ-loop
-mul-sets-2 c = omega (arith, c .before .before .before .before .pre)
+mul-sets-2 c = omega (arith, c .before .before .before .before .before .pre)
 
 slice-read-sets : tie.Need-slice-read-sets Inv-loop μ-loop
 slice-read-sets c =
-    let s = c .before .before .before .before .before in
-    omega (arith, s .pre, c .before .before .loop .inv .2 (s .pre .0 .0) (s .pre .0 .1) .size)
+    let s = c .before .before .before .before .before .before in
+    omega (arith, s .pre, c .before .before .loop .inv .2 (s .pre .0 .0) (s .pre .0 .1) .only .size)
 
 spread-setting-requires-2 : tie.Need-spread-setting-requires-2 Inv-loop μ-loop
 spread-setting-requires-2 c κs =
-    let s = c .before .before .before .before .before .before .before .before .before in
+    let s = c .before .before .before .before .before .before .before .before .before .before in
     let l = c .before .before .before .before .before .before .loop in
     let q = l .inv .2 (s .pre .0 .0) (s .pre .0 .1) in
-    (s .pre .0, (l .inv .1, (omega (arith, q .size, s .pre .1 .1 .0 .0), q .seen-size, omega (arith, s .pre .1 .1 .1 .1), s .pre .1 .1 .0 .3)))
+    (s .pre .0, (l .inv .1, (omega (arith, q .only .size, s .pre .1 .1 .0), q .seen-size, omega (arith, c .before .before .before .before .before .before .before .setting-count .ensures .1), s .pre .1 .1 .3)))
 
 add-x : tie.Need-add-x Inv-loop μ-loop
 add-x c = omega arith
@@ -87,20 +89,20 @@ loop-less c = omega arith
 
 loop-again : tie.Need-loop-again Inv-loop μ-loop
 loop-again c =
-    let s = c .before .before .before .before .before .before in
+    let s = c .before .before .before .before .before .before .before in
     let l = c .before .before .before .loop in
     let j = s .args .i - 1 in
     let Below : Network → ℕ → Type 0 = λ net. LeftBelow net (s .args .table .now) j (l .x + 1) in
-    let same : (net : Network) → Prepared net (s .args .nodes .now) (s .args .steering .now) (s .args .t) (s .args .segments .now) (s .args .places .now) (s .args .k) → getD (l .table) (j * 729 + l .x) 0 ≡ getD (s .args .table .now) (j * 729 + l .x) 0 =
-    λ net p. l .inv .2 net p .others (j * 729 + l .x) (inl (omega (arith, s .pre .1 .1 .1 .1))) in
+    let same : (net : Network) → Prepared net (s .args .nodes .now) (s .args .steering .now) (s .args .problem) → getD (l .table) (j * 729 + l .x) 0 ≡ getD (s .args .table .now) (j * 729 + l .x) 0 =
+    λ net p. l .inv .2 net p .only .others (j * 729 + l .x) (inl (omega (arith, c .before .before .before .before .setting-count .ensures .1))) in
     ⊎-elim
     (λ w. (
       omega arith,
       rw (w .7) (w .4 .ensures .0),
       λ net p.
-          spread-at (Below net) (s .args .i) (s .args .table .now) (s .args .seen .now) (w .4 .last .1 .1 .1 .1 .1 .1 .1 .1 .1 .0) (w .4 .last .1 .1 .1 .1 .1 .1 .1 .1 .1 .1 .0) (c .if2 .table) (c .if2 .seen) (w .8) (w .9)
+          spread-at (Below net) (s .args .i) (s .args .table .now) (s .args .seen .now) (w .4 .last .1 .1 .1 .1 .1 .1 .0) (w .4 .last .1 .1 .1 .1 .1 .1 .1 .0) (c .if2 .table) (c .if2 .seen) (w .8) (w .9)
           (left-more net (s .args .table .now) j (s .args .i) (l .x) (s .args .seen .now) (l .table) (l .seen) (l .inv .2 net p)
-          (getD (l .table) (j * 729 + l .x) 0) (w .4 .last .1 .1 .1 .1 .1 .1 .1 .1 .1 .0) (w .4 .last .1 .1 .1 .1 .1 .1 .1 .1 .1 .1 .0) (same net p) (w .4 .ensures .1 .0 net p)),
+          (getD (l .table) (j * 729 + l .x) 0) (w .4 .last .1 .1 .1 .1 .1 .1 .0) (w .4 .last .1 .1 .1 .1 .1 .1 .1 .0) (same net p) (w .4 .ensures .1 .0 net p)),
       λ net p.
           subst (SetsIn (Below net)) (sym (w .10))
           (sets-more net (s .args .table .now) j (l .x) (l .all) (l .inv .3 net p) (getD (l .table) (j * 729 + l .x) 0) (w .4 .result) (same net p) (w .4 .ensures .1 .1 net p)),
@@ -117,23 +119,24 @@ loop-again c =
 
 same-length-2 : tie.Need-same-length-2 Inv-loop μ-loop
 same-length-2 c =
-    let s = c .before .before .before .before in
-    c .before .loop .inv .2 (s .pre .0 .0) (s .pre .0 .1) .size
+    let s = c .before .before .before .before .before in
+    c .before .loop .inv .2 (s .pre .0 .0) (s .pre .0 .1) .only .size
 
 returns-2 : tie.Need-returns-2 Inv-loop μ-loop
 returns-2 c =
-    let s = c .before .before .before .before in
+    let s = c .before .before .before .before .before in
+    let n = c .before .before .setting-count in
     let l = c .before .loop in (
       l .inv .1,
       (
-        only-slot (s .args .i) (s .args .table .now) (s .args .seen .now) (l .table) (l .seen) (LeftBelow (s .pre .0 .0) (s .args .table .now) (s .args .i - 1) (l .x)) (l .inv .2 (s .pre .0 .0) (s .pre .0 .1)),
+        (l .inv .2 (s .pre .0 .0) (s .pre .0 .1) .only, l .inv .2 (s .pre .0 .0) (s .pre .0 .1) .seen-size),
         (
           λ net p known.
-              left-all net (s .args .start * 16) (s .args .table .now) (s .args .i) (l .x) (s .args .seen .now) (l .table) (l .seen) (omega arith) (omega (arith, s .pre .1 .1 .1 .1))
-              (omega (arith, settings-count net (s .args .nodes .now) (s .args .steering .now) (s .args .t) (s .args .segments .now) (s .args .places .now) (s .args .k) p, s .pre .1 .1 .1 .0)) known (l .inv .2 net p),
+              left-all net (s .args .start * 16) (s .args .table .now) (s .args .i) (l .x) (s .args .seen .now) (l .table) (l .seen) (omega arith) (omega (arith, n .ensures .1))
+              (omega (arith, settings-count net (s .args .nodes .now) (s .args .steering .now) (s .args .problem) p, n .ensures .0)) known (l .inv .2 net p),
           λ net p known.
               sets-all net (s .args .start * 16) (s .args .table .now) (s .args .i) (l .x) (l .all) (omega arith)
-              (omega (arith, settings-count net (s .args .nodes .now) (s .args .steering .now) (s .args .t) (s .args .segments .now) (s .args .places .now) (s .args .k) p, s .pre .1 .1 .1 .0)) known (l .inv .3 net p),
+              (omega (arith, settings-count net (s .args .nodes .now) (s .args .steering .now) (s .args .problem) p, n .ensures .0)) known (l .inv .3 net p),
         ),
       ),
     )
@@ -147,6 +150,7 @@ spread-layer-spec =
     spread-setting-requires
     same-length
     returns
+    setting-count-requires
     loop-holds
     sub-sets
     mul-sets

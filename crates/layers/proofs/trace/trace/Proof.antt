@@ -7,7 +7,7 @@ use native.Mathlib.Omega.{arith}
 use lib.Bits.{or-lt}
 use lib.ListN.{length, length-set}
 use Rattle.settings.specs.Rows.{RowsRight}
-use Rattle.layers.specs.Table.{Each}
+use Rattle.settings.specs.Route.{Each}
 use Rattle.layers.specs.Keeping.{Kept}
 use Rattle.layers.proofs.RowLaws.{landing-of, listed-small, gain-read-small}
 use Rattle.layers.proofs.KeptWay.{Tracing, tracing-start, tracing-within, tracing-step, tracing-end}
@@ -16,12 +16,12 @@ use Rattle.layers.proofs.trace.trace.Statement.{statement}
 use Rattle.layers.proofs.trace.trace.Tie as tie
 
 abbrev Inv-loop : tie.InvT-loop
-Inv-loop nodes steering t segments places k rows₀ start table d out₀ x₀ m₀ i₀ rows out x m i =
-    (i ≤ d) × (x < 729) × (m < 16) × (length out ≡ length out₀) × RowsRight nodes steering t segments places k rows
-    × Each nodes steering t segments places k (λ net. (kept : Kept net (start * 16) d table) → Tracing net (start * 16) d table kept out₀ out x m i)
+Inv-loop nodes steering pb rows₀ start table d out₀ x₀ m₀ i₀ rows out x m i =
+    (i ≤ d) × (x < 729) × (m < 16) × (length out ≡ length out₀) × RowsRight nodes steering pb rows
+    × Each nodes steering pb (λ net. (kept : Kept net (start * 16) d table) → Tracing net (start * 16) d table kept out₀ out x m i)
 
 abbrev μ-loop : tie.MeasureT-loop
-μ-loop nodes steering t segments places k rows₀ start table d out₀ x₀ m₀ i₀ rows out x m i = d - i
+μ-loop nodes steering pb rows₀ start table d out₀ x₀ m₀ i₀ rows out x m i = d - i
 
 loop-holds : tie.Need-loop-holds Inv-loop μ-loop
 loop-holds c =
