@@ -10,7 +10,7 @@ use Rattle.model.specs.Network.{steeringBits, tabulate}
 use Rattle.model.specs.PlanText.{writePlan}
 use Rattle.model.specs.Calls.{writeOver, searchEntries}
 use Rattle.model.proofs.Lists.{length-tabulate}
-use Rattle.path.specs.Layout.{nodesOf, lookIn}
+use Rattle.path.specs.Layout.{lookIn}
 use Rattle.plan_text.proofs.Writing.{over-none}
 use Rattle.network.specs.declared.reader.Network.{Network}
 use Rattle.network.specs.Draws.{targetAt}
@@ -20,13 +20,13 @@ use Rattle.search.specs.Settings.{settingOf, numberOf}
 use Rattle.search.specs.Moves.{decode}
 use Rattle.search.proofs.SettingNumbers.{setting-small}
 use Rattle.search.proofs.MoveLaws.{settings-within}
-use Rattle.settings.specs.Steering.{bitsOf}
-use Rattle.settings.specs.Route.{Prepared}
+use Rattle.settings.specs.declared.steering.Problem.{Problem}
+use Rattle.settings.specs.Steering.{steeringOf, ProblemOf}
+use Rattle.settings.specs.Route.{Prepared, Each}
 use Rattle.settings.specs.Rows.{RowsRight}
 use Rattle.settings.proofs.SettingWalk.{planned-few}
 use Rattle.layers.specs.declared.plan.Found.{Found}
 use Rattle.layers.specs.declared.plan.Found.the-variants.{Operations, Nothing}
-use Rattle.layers.specs.Table.{Each}
 use Rattle.layers.specs.Plans.{Starts, PlanFound}
 use Rattle.planner.specs.declared.writer.Planned.{Planned}
 use Rattle.planner.specs.declared.writer.Planned.the-variants.{Written, Refused}
@@ -52,38 +52,41 @@ module _ (r : Network) (search : List ℕ) (s : Searchable r search) where
       plans-given r search plan search′ clear [] (plan-empty (networkOf r) (s .accepted) (ap (tabulate (targetAt (r .nodes) (r .tally)) 0) e)) (Written 0) plan
       (given-written (writePlan []) plan 0 refl (omega arith) plan (sym (over-none plan)))
 
-  -- ---- the steering bits are listed
+  -- ---- the problem is made
 
-  module _ (segments places : List ℕ) (k : ℕ) (lists : (bitsOf segments places k ≡ steeringBits (nodesOf (r .nodes) (r .tally .count))) × (k ≤ 6)) where
-    pub prepared : Prepared (networkOf r) (r .nodes) (r .steering) (r .tally) segments places k
-    prepared = record-planned r (s .filled) (s .accepted) (s .few) segments places k (lists .0) (lists .1)
+  module _ (pb : Problem) (h : ProblemOf (r .nodes) (r .tally) pb) where
+    pub prepared : Prepared (networkOf r) (r .nodes) (r .steering) pb
+    prepared = record-planned r (s .filled) (s .accepted) (s .few) pb h
 
     -- ---- the number of the start is known
 
-    module _ (start : ℕ) (e : start ≡ settingOf (bitsOf segments places k) (lookIn (r .bits) (r .known))) where
+    module _ (start : ℕ) (e : start ≡ settingOf (steeringOf pb) (lookIn (r .bits) (r .known))) where
       number : start ≡ numberOf (networkOf r) (networkOf r .start)
-      number = record-number r (s .filled) (s .accepted) (s .few) segments places k (lists .0) (lists .1) start e
+      number = record-number r (s .filled) (s .accepted) (s .few) pb h start e
 
       -- what the search asks
-      module _ (full : ℕ) (f : full ≡ 2 ^ (r .tally .«target_count») - 1) (one : 1 ≤ r .tally .«target_count») where
-        starts : Each (r .nodes) (r .steering) (r .tally) segments places k (λ net. Starts net start full)
+      module _ (full : ℕ) (f : full ≡ 2 ^ (pb .tally .«target_count») - 1) (one : 1 ≤ r .tally .«target_count») where
+        here : 1 ≤ pb .tally .«target_count»
+        here = rw (h .tally-is) one
+
+        starts : Each (r .nodes) (r .steering) pb (λ net. Starts net start full)
         starts net p = record {
-          within = rw (← (p .bits-are), e) (setting-small (bitsOf segments places k) (lookIn (r .bits) (r .known)));
-          all = f ∙ ap (λ (n : ℕ). 2 ^ n - 1) (sym (ap length (p .targets-are) ∙ length-tabulate (targetAt (r .nodes) (r .tally)) 0 (r .tally .«target_count»)));
-          one = omega (arith, pow-le-pow-right {n = 2} (omega arith) one);
+          within = rw (← (p .bits-are), e) (setting-small (steeringOf pb) (lookIn (r .bits) (r .known)));
+          all = f ∙ ap (λ (n : ℕ). 2 ^ n - 1) (sym (ap length (p .targets-are) ∙ length-tabulate (targetAt (r .nodes) (pb .tally)) 0 (pb .tally .«target_count»)));
+          one = omega (arith, pow-le-pow-right {n = 2} (omega arith) here);
         }
 
         pub search-asks : ((11664 ≤ length search) × (start < 729) × (full < 16) × (16 ≤ length (replicate {A = ℕ} 16 0)))
-            × Each (r .nodes) (r .steering) (r .tally) segments places k (λ net. Starts net start full)
+            × Each (r .nodes) (r .steering) pb (λ net. Starts net start full)
         search-asks =
-            let few = planned-few (networkOf r) (r .nodes) (r .steering) (r .tally) segments places k prepared in
+            let few = planned-few (networkOf r) (r .nodes) (r .steering) pb prepared in
             let small : start < 729 = omega (arith, starts (networkOf r) prepared .within, settings-within (length (steeringBits (networkOf r .nodes))) few) in
-            let below : full < 16 = omega (arith, pow-le-pow-right {n = 2} (omega arith) {j = 4} (s .filled .tame .targets-fit)) in
+            let below : full < 16 = omega (arith, pow-le-pow-right {n = 2} (omega arith) {j = 4} (prepared .tame .targets-fit)) in
             ((s .enough, small, below, omega (arith, length-replicate {A = ℕ} 16 0)), starts)
 
       -- what it answers
       module _ (plan search′ : List ℕ) (clear : search′ ≡ writeOver (replicate searchEntries 0) search) (f : Found) (picked : List ℕ)
-          (is : Each (r .nodes) (r .steering) (r .tally) segments places k (λ net. PlanFound net start (replicate 16 0) f picked)) where
+          (is : Each (r .nodes) (r .steering) pb (λ net. PlanFound net start (replicate 16 0) f picked)) where
         pub finds-none : f ≡ Nothing → PlansIn r search plan (Refused 11 0) search′ plan
         finds-none q = plans-none r search plan search′ clear (found-nothing (networkOf r) (s .accepted) start number (is (networkOf r) prepared) q)
 
@@ -91,12 +94,12 @@ module _ (r : Network) (search : List ℕ) (s : Searchable r search) where
           found : FoundPlan (networkOf r) (s .accepted) start number picked n
           found = found-plan (networkOf r) (s .accepted) start number picked n (is (networkOf r) prepared) q
 
-          counts-of : CountsOf (networkOf r) (r .nodes) (r .steering) (r .tally) segments places k start picked n (found .cs)
+          counts-of : CountsOf (networkOf r) (r .nodes) (r .steering) pb start picked n (found .cs)
           counts-of = record { prepared = prepared; picks = found .picks }
 
           -- what its text asks
-          pub has-text : Countable (r .nodes) (r .steering) (r .tally) segments places k start picked n
+          pub has-text : Countable (r .nodes) (r .steering) pb start picked n
           has-text = (networkOf r, found .cs, counts-of)
 
-          pub finds-plan : (a : Planned) (plan′ : List ℕ) → GivesText (r .nodes) (r .steering) (r .tally) segments places k start picked n plan a plan′ → PlansIn r search plan a search′ plan′
+          pub finds-plan : (a : Planned) (plan′ : List ℕ) → GivesText (r .nodes) (r .steering) pb start picked n plan a plan′ → PlansIn r search plan a search′ plan′
           finds-plan a plan′ g = plans-given r search plan search′ clear (decode (networkOf r) start (found .cs)) (found .plan-found) a plan′ (g (networkOf r) (found .cs) counts-of)

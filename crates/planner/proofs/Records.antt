@@ -13,12 +13,13 @@ use Rattle.model.proofs.Lists.{length-tabulate}
 use Rattle.path.specs.Layout.{nodeAt, nodesOf, wordWidth, configOf, lookIn}
 use Rattle.path.proofs.ConfigLaws.{config-bit, at-tabulate, good-most}
 use Rattle.network.specs.declared.reader.Network.{Network}
-use Rattle.network.specs.Draws.{Short}
+use Rattle.network.specs.Draws.{Short, targetsOf}
 use Rattle.network.specs.Reads.{networkOf, Filled}
 use Rattle.search.specs.Settings.{settingOf, numberOf}
 use Rattle.search.proofs.Steering.{steering-bit}
 use Rattle.search.proofs.SettingNumbers.{setting-same}
-use Rattle.settings.specs.Steering.{bitsOf, Steered}
+use Rattle.settings.specs.declared.steering.Problem.{Problem}
+use Rattle.settings.specs.Steering.{steeringOf, Steered, ProblemOf}
 use Rattle.settings.specs.Route.{Prepared}
 
 module _ (r : Network) (filled : Filled r) (accepted : Accepted (networkOf r)) (few : r .«steering_count» ≤ 6) where
@@ -34,27 +35,27 @@ module _ (r : Network) (filled : Filled r) (accepted : Accepted (networkOf r)) (
       subst (λ (nd : Node). lenOf nd ≤ wordWidth) (record-node (suc n) a b)
       (good-most (nodesOf (r .nodes) (r .tally .count)) (suc n) (getD (nodesOf (r .nodes) (r .tally .count)) n noNode) (accepted .wf .backwards n (omega (arith, record-length))))
 
-  -- what `list_steering` asks
+  -- what `problem_of` asks
   pub record-steered : Steered (r .nodes) (r .steering) (r .tally .count)
   record-steered = record { most = filled .tame .nodes-fit; short = record-short; steering-is = filled .steering-is; few = omega (arith, filled .counted) }
 
-  module _ (segments places : List ℕ) (k : ℕ) (lists : bitsOf segments places k ≡ steeringBits (nodesOf (r .nodes) (r .tally .count))) (small : k ≤ 6) where
-    -- what the other calls ask, with what `list_steering` tells
-    pub record-planned : Prepared (networkOf r) (r .nodes) (r .steering) (r .tally) segments places k
+  module _ (pb : Problem) (h : ProblemOf (r .nodes) (r .tally) pb) where
+    -- what the other calls ask, with what `problem_of` tells
+    pub record-planned : Prepared (networkOf r) (r .nodes) (r .steering) pb
     record-planned = record {
-      stored = record { nodes = refl; feeds = refl; most = filled .tame .nodes-fit; formed = accepted .wf };
+      stored = rw (h .tally-is) (record { nodes = refl; feeds = refl; most = filled .tame .nodes-fit; formed = accepted .wf });
       accepted = accepted;
-      targets-are = refl;
-      tame = filled .tame;
+      targets-are = ap (targetsOf (r .nodes)) (sym (h .tally-is));
+      tame = rw (h .tally-is) (filled .tame);
       steering-is = filled .steering-is;
-      bits-are = lists;
-      few = small;
+      bits-are = h .bits-are;
+      few = h .few;
     }
 
     -- the start's setting, as `setting_number` tells it
-    pub record-number : (n : ℕ) → n ≡ settingOf (bitsOf segments places k) (lookIn (r .bits) (r .known)) → n ≡ numberOf (networkOf r) (networkOf r .start)
+    pub record-number : (n : ℕ) → n ≡ settingOf (steeringOf pb) (lookIn (r .bits) (r .known)) → n ≡ numberOf (networkOf r) (networkOf r .start)
     record-number n e =
-        e ∙ ap (λ (l : List (ℕ × ℕ)). settingOf l (lookIn (r .bits) (r .known))) lists
+        e ∙ ap (λ (l : List (ℕ × ℕ)). settingOf l (lookIn (r .bits) (r .known))) (h .bits-are)
         ∙ sym (setting-same (steeringBits (nodesOf (r .nodes) (r .tally .count))) (bitOf (configOf (r .nodes) (r .bits) (r .known) (r .tally .count))) (lookIn (r .bits) (r .known)) same)
       where
         same : (q : ℕ × ℕ) → List·Memᴰ q (steeringBits (nodesOf (r .nodes) (r .tally .count)))

@@ -15,7 +15,8 @@ use Rattle.path.specs.declared.walk.Walked.the-variants.{Path, Stop as Stopped}
 use Rattle.search.specs.Moves.{land, StepOf}
 use Rattle.search.specs.Settings.{walkAt}
 use Rattle.search.proofs.MoveLaws.{settings-within, path-short, land-within}
-use Rattle.settings.specs.Route.{Prepared, SettingWalked}
+use Rattle.settings.specs.declared.steering.Problem.{Problem}
+use Rattle.settings.specs.Route.{Prepared, Each, WalkIs}
 use Rattle.settings.specs.Rows.{rowNumber, RowsRight, Lands, Landing, LandsIn}
 use Rattle.settings.proofs.SettingWalk.{planned-few}
 use Rattle.planner.specs.Line.{WantsOf, HasRoom, Fills, LinePut}
@@ -37,7 +38,7 @@ use Rattle.planner.proofs.WholeText.{
 }
 
 -- what the writers of a line ask
-pub prepared-fills : {net : Network} {ns steering : List ℕ} {pb : Problem} {wants : List ℕ} → Prepared net ns steering pb → WantsOf t wants
+pub prepared-fills : {net : Network} {ns steering : List ℕ} {pb : Problem} {wants : List ℕ} → Prepared net ns steering pb → WantsOf (pb .tally) wants
     → Fills net ns steering wants
 prepared-fills {ns = ns} p w =
     record { steering-is = p .steering-is; wants-are = λ s b l inside. w .are s l ns b inside ∙ ap (λ (ts : List Target). wanted ts s b) (sym (p .targets-are)) }
@@ -62,7 +63,7 @@ module _ {rows : List ℕ} {x c r : ℕ} {lands : List ℕ} (less : c < rowNumbe
 
 -- ---- one turn: i choices are passed, and x is the setting behind them
 
-module _ {net : Network} {ns steering : List ℕ} {t : Tally} {segments places : List ℕ} {k start : ℕ} {picked : List ℕ} {n : ℕ} {cs : List ℕ}
+module _ {net : Network} {ns steering : List ℕ} {pb : Problem} {start : ℕ} {picked : List ℕ} {n : ℕ} {cs : List ℕ}
     (o : CountsOf net ns steering pb start picked n cs) where
   few : length (steeringBits (net .nodes)) ≤ 6
   few = planned-few net ns steering pb (o .prepared)
@@ -95,11 +96,11 @@ module _ {net : Network} {ns steering : List ℕ} {t : Tally} {segments places :
 
 -- ---- the length
 
-abbrev pub Counting : List ℕ → List ℕ → Tally → List ℕ → List ℕ → ℕ → ℕ → List ℕ → ℕ → ℕ → ℕ → ℕ → Type 0
+abbrev pub Counting : List ℕ → List ℕ → Problem → ℕ → List ℕ → ℕ → ℕ → ℕ → ℕ → Type 0
 Counting ns steering pb start picked n i x sum =
     (net : Network) (cs : List ℕ) → CountsOf net ns steering pb start picked n cs → Counted net start cs i x sum
 
-module _ {ns steering : List ℕ} {t : Tally} {segments places : List ℕ} {k start : ℕ} {picked : List ℕ} {n : ℕ} where
+module _ {ns steering : List ℕ} {pb : Problem} {start : ℕ} {picked : List ℕ} {n : ℕ} where
   pub counting-none : Counting ns steering pb start picked n 0 start 0
   counting-none net cs o = count-none net start cs (first-passed o)
 
@@ -129,16 +130,16 @@ module _ {ns steering : List ℕ} {t : Tally} {segments places : List ℕ} {k st
 
 -- ---- the text
 
-abbrev pub Writing : List ℕ → List ℕ → Tally → List ℕ → List ℕ → ℕ → ℕ → List ℕ → ℕ → List ℕ → ℕ → ℕ → ℕ → List ℕ → Type 0
+abbrev pub Writing : List ℕ → List ℕ → Problem → ℕ → List ℕ → ℕ → List ℕ → ℕ → ℕ → ℕ → List ℕ → Type 0
 Writing ns steering pb start picked n old i x place buf =
     (net : Network) (cs : List ℕ) → WritesOf net ns steering pb start picked n old cs → Written net start cs old i x place buf
 
-module _ {ns steering : List ℕ} {t : Tally} {segments places : List ℕ} {k start : ℕ} {picked : List ℕ} {n : ℕ} {old : List ℕ} where
+module _ {ns steering : List ℕ} {pb : Problem} {start : ℕ} {picked : List ℕ} {n : ℕ} {old : List ℕ} where
   pub writing-none : Writing ns steering pb start picked n old 0 start 0 old
   writing-none net cs o = text-none net start cs (first-passed (o .counts)) old
 
   module _ {i x place : ℕ} {buf : List ℕ} (s : Writing ns steering pb start picked n old i x place buf) where
-    module _ (l : i < n) {r : Walked} {way : List ℕ} (w : SettingWalked ns steering pb x r way) where
+    module _ (l : i < n) {r : Walked} {way : List ℕ} (w : Each ns steering pb (λ net. WalkIs net ns x r way)) where
       pub writing-stops : (m : ℕ) → r ≡ Stopped m → Writes ns steering pb start picked n old buf
       writing-stops m e net cs o = absurd (no-stop (turn-step (o .counts) (s net cs o .passed) l refl) m (w net (o .counts .prepared) .tells ∙ ap (told ns way) e))
 
@@ -161,7 +162,7 @@ module _ {ns steering : List ℕ} {t : Tally} {segments places : List ℕ} {k st
 
         pub writing-more : {rows : List ℕ} → RowsRight ns steering pb rows → rowNumber rows x 0 ≡ 1 → {c : ℕ} → c ≡ getD picked i 0
             → {h next end : ℕ} {new : List ℕ} → h ≡ rowNumber rows x 1 → LandIn rows x c next → end ≡ place + (5 + pathLength (scanPath ns (take m way)))
-            → length new ≡ length buf → {wants : List ℕ} → WantsOf t wants → LinePut ns steering wants way m place h c buf new → Writing ns steering pb start picked n old (i + 1) next end new
+            → length new ≡ length buf → {wants : List ℕ} → WantsOf (pb .tally) wants → LinePut ns steering wants way m place h c buf new → Writing ns steering pb start picked n old (i + 1) next end new
         writing-more right known {c} is {h} {next} {end} {new} choices to behind same ws put net cs o =
             let q = o .counts in
             let f = s net cs o .passed in

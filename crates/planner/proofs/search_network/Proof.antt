@@ -3,7 +3,6 @@
 use mathlib.Core.Path.{sym, ap, _∙_, subst}
 use Prim.Native.Nat.{ℕ, _-_, _<_}
 use native.Mathlib.Omega.{arith}
-use lib.ListN.{length-replicate}
 use lib.Pow.{pow-pos}
 use Rattle.settings.proofs.SettingWalk.{planned-listed}
 use Rattle.planner.proofs.Records.{record-steered}
@@ -12,19 +11,20 @@ use borrow.Author.Needs.{needs}
 use Rattle.planner.proofs.search_network.Statement.{statement}
 use Rattle.planner.proofs.search_network.Tie as tie
 
-list-steering-requires : tie.Need-list-steering-requires
-list-steering-requires c κs =
-    let p = c .before .before .before .before .before .before .before .before .pre .0 in
-    (record-steered _ (p .filled) (p .accepted) (p .few), record { segments-size = length-replicate {A = ℕ} 6 0; places-size = length-replicate {A = ℕ} 6 0 })
+problem-of-requires : tie.Need-problem-of-requires
+problem-of-requires c κs =
+    let p = c .before .before .before .before .before .before .pre .0 in
+    record-steered _ (p .filled) (p .accepted) (p .few)
 
 setting-number-requires : tie.Need-setting-number-requires
 setting-number-requires c κs =
-    let w = c .before .before .before .before .before in
-    let p = w .before .before .before .before .before .before .before .before .before .pre in
-    planned-listed _ _ _ _ _ _ _ (prepared _ _ (p .0) _ _ _ (w .list-steering .ensures))
+    let w = c .before .before .before in
+    planned-listed _ _ _ _ (prepared _ _ (w .before .before .before .before .before .before .before .pre .0) _ (w .problem-of .ensures))
 
 power-of-2-requires : tie.Need-power-of-2-requires
-power-of-2-requires c κs = search needs
+power-of-2-requires c κs =
+    let w = c .before .before .before .before in
+    omega (arith, prepared _ _ (w .before .before .before .before .before .before .before .pre .0) _ (w .problem-of .ensures) .tame .targets-fit)
 
 wide-requires : tie.Need-wide-requires
 wide-requires c κs = search needs
@@ -39,15 +39,15 @@ slice-aggregate-find-plan c = search needs
 
 find-plan-requires : tie.Need-find-plan-requires
 find-plan-requires c κs =
-    let v = c .before .before .before .before .before .before .before .before in
+    let v = c .before .before .before .before .before .before in
     let n = v .before .before in
-    let w = n .before .before .before .before .before .before in
-    let p = w .before .before .before .before .before .before .before .before .before .pre in
-    let lists = w .list-steering .ensures in
+    let w = n .before .before .before .before in
+    let p = w .before .before .before .before .before .before .before .pre in
+    let lists = w .problem-of .ensures in
     let e = n .setting-number .ensures in
     let full = ap (λ (n : ℕ). n - 1) (v .wide .ensures ∙ v .before .power-of-2 .ensures .0) in (
-      (_, prepared _ _ (p .0) _ _ _ lists),
-      (rows-none _ _ _ _ _ _, search-asks _ _ (p .0) _ _ _ lists _ e _ full (p .1)),
+      (_, prepared _ _ (p .0) _ lists),
+      (rows-none _ _ _, search-asks _ _ (p .0) _ lists _ e _ full (p .1)),
     )
 
 enum-told : tie.Need-enum-told
@@ -58,13 +58,13 @@ enum-known-found c = search needs
 
 write-plan-requires : tie.Need-write-plan-requires
 write-plan-requires c κs =
-    let m = c .before .before .before .before .before .before .before .before .before in
+    let m = c .before .before .before .before .before .before .before in
     let find = m .before .before .before .before .before in
-    let n = find .before .before .before .before .before .before .before .before .before .before .before in
-    let w = n .before .before .before .before .before .before in
-    let s = w .before .before .before .before .before .before .before .before .before in
+    let n = find .before .before .before .before .before .before .before .before .before in
+    let w = n .before .before .before .before in
+    let s = w .before .before .before .before .before .before .before in
     let f = find .find-plan .ensures in
-    (has-text _ _ (s .pre .0) _ _ _ (w .list-steering .ensures) _ (n .setting-number .ensures) (s .args .plan .now) _ (f .1 .1) _ _ (f .1 .0) _ (m .found .given .1), f .0)
+    (has-text _ _ (s .pre .0) _ (w .problem-of .ensures) _ (n .setting-number .ensures) (s .args .plan .now) _ (f .1 .1) _ _ (f .1 .0) _ (m .found .given .1), f .0)
 
 same-length : tie.Need-same-length
 same-length c = search needs
@@ -72,11 +72,11 @@ same-length c = search needs
 returns : tie.Need-returns
 returns c =
     let find = c .before .before .before .before .before in
-    let n = find .before .before .before .before .before .before .before .before .before .before .before in
-    let w = n .before .before .before .before .before .before in
-    let p = w .before .before .before .before .before .before .before .before .before .pre in
+    let n = find .before .before .before .before .before .before .before .before .before in
+    let w = n .before .before .before .before in
+    let p = w .before .before .before .before .before .before .before .pre in
     let f = find .find-plan .ensures in
-    finds-none _ _ (p .0) _ _ _ (w .list-steering .ensures) _ (n .setting-number .ensures) _ _ (f .1 .1) _ _ (f .1 .0) (c .enum-told .given .1)
+    finds-none _ _ (p .0) _ (w .problem-of .ensures) _ (n .setting-number .ensures) _ _ (f .1 .1) _ _ (f .1 .0) (c .enum-told .given .1)
 
 same-length-2 : tie.Need-same-length-2
 same-length-2 c = search needs
@@ -87,19 +87,19 @@ same-length-3 c = search needs
 returns-2 : tie.Need-returns-2
 returns-2 c =
     let text = c .before .before in
-    let m = text .before .before .before .before .before .before .before .before .before .before in
+    let m = text .before .before .before .before .before .before .before .before in
     let find = m .before .before .before .before .before in
-    let n = find .before .before .before .before .before .before .before .before .before .before .before in
-    let w = n .before .before .before .before .before .before in
-    let p = w .before .before .before .before .before .before .before .before .before .pre in
+    let n = find .before .before .before .before .before .before .before .before .before in
+    let w = n .before .before .before .before in
+    let p = w .before .before .before .before .before .before .before .pre in
     let f = find .find-plan .ensures in
-    finds-plan _ _ (p .0) _ _ _ (w .list-steering .ensures) _ (n .setting-number .ensures) _ _ (f .1 .1) _ _ (f .1 .0) _ (m .found .given .1) _ _ (text .write-plan .ensures)
+    finds-plan _ _ (p .0) _ (w .problem-of .ensures) _ (n .setting-number .ensures) _ _ (f .1 .1) _ _ (f .1 .0) _ (m .found .given .1) _ _ (text .write-plan .ensures)
 
 pub search-network-spec : {M : Type 1} → statement M
 search-network-spec =
     tie.close
     (tie.spec
-    list-steering-requires
+    problem-of-requires
     setting-number-requires
     power-of-2-requires
     wide-requires

@@ -10,11 +10,11 @@ use Rattle.planner.proofs.writer.text_length.Statement.{statement}
 use Rattle.planner.proofs.writer.text_length.Tie as tie
 
 abbrev Inv-loop : tie.InvT-loop
-Inv-loop nodes steering t segments places k rows₀ start picked n sum₀ x₀ i₀ rows sum x i =
-    RowsRight nodes steering t segments places k rows × Counting nodes steering t segments places k start picked n i x sum
+Inv-loop nodes steering pb rows₀ start picked n sum₀ x₀ i₀ rows sum x i =
+    RowsRight nodes steering pb rows × Counting nodes steering pb start picked n i x sum
 
 abbrev μ-loop : tie.MeasureT-loop
-μ-loop nodes steering t segments places k rows₀ start picked n sum₀ x₀ i₀ rows sum x i = n - i
+μ-loop nodes steering pb rows₀ start picked n sum₀ x₀ i₀ rows sum x i = n - i
 
 -- the sum with the line of this turn
 line-fits : (c : tie.After-number Inv-loop μ-loop) → c .before .before .before .before .before .loop .sum + (5 + c .number .result) ≤ 64080

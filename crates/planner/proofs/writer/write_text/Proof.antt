@@ -14,14 +14,14 @@ use Rattle.planner.proofs.writer.write_text.Statement.{statement}
 use Rattle.planner.proofs.writer.write_text.Tie as tie
 
 abbrev Inv-loop : tie.InvT-loop
-Inv-loop nodes steering t segments places k rows₀ start picked n plan₀ wants way₀ at₀ x₀ i₀ rows plan way at x i =
-    RowsRight nodes steering t segments places k rows × (length way ≡ 128) × Writing nodes steering t segments places k start picked n plan₀ i x at plan
+Inv-loop nodes steering pb rows₀ start picked n plan₀ wants way₀ at₀ x₀ i₀ rows plan way at x i =
+    RowsRight nodes steering pb rows × (length way ≡ 128) × Writing nodes steering pb start picked n plan₀ i x at plan
 
 abbrev μ-loop : tie.MeasureT-loop
-μ-loop nodes steering t segments places k rows₀ start picked n plan₀ wants way₀ at₀ x₀ i₀ rows plan way at x i = n - i
+μ-loop nodes steering pb rows₀ start picked n plan₀ wants way₀ at₀ x₀ i₀ rows plan way at x i = n - i
 
 list-wants-requires : tie.Need-list-wants-requires Inv-loop μ-loop
-list-wants-requires c κs = let q = c .before .before .pre .0 .2 .counts .prepared in (q .tame, planned-targets _ _ _ _ _ _ _ q, no-marks)
+list-wants-requires c κs = let q = c .before .before .pre .0 .2 .counts .prepared in (q .tame, planned-targets _ _ _ _ q, no-marks)
 
 loop-holds : tie.Need-loop-holds Inv-loop μ-loop
 loop-holds c = (c .before .before .before .pre .1, length-replicate {A = ℕ} 128 0, writing-none)
