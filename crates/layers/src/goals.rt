@@ -10,7 +10,7 @@ use settings::rows::number;
 use settings::steering::Problem;
 ghost use mathlib.Core.Path.{_≡_};
 ghost use mathlib.Core.Bool.{true};
-ghost use Prim.Native.Nat.{ℕ, _^_, _≤_, _<_};
+ghost use Prim.Native.Nat.{ℕ, _≤_, _<_};
 ghost use lib.ListN.{length};
 ghost use Rattle.search.specs.Moves.{allOf};
 ghost use Rattle.settings.specs.Route.{Plannable, Each};

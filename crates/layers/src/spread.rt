@@ -14,7 +14,7 @@ use settings::rows::list_lands;
 use settings::rows::number;
 use settings::steering::Problem;
 ghost use mathlib.Core.Path.{_≡_};
-ghost use Prim.Native.Nat.{ℕ, _*_, _^_, _≤_, _<_};
+ghost use Prim.Native.Nat.{ℕ, _*_, _≤_, _<_};
 ghost use lib.ListN.{length, getD};
 ghost use Rattle.settings.specs.Route.{Plannable, Each};
 ghost use Rattle.settings.specs.Rows.{RowsRight};

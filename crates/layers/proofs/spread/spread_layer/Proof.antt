@@ -9,7 +9,7 @@ use lib.ListN.{getD}
 use Rattle.model.specs.Network.{Network}
 use Rattle.settings.specs.Route.{Prepared, Each}
 use Rattle.settings.specs.Rows.{RowsRight}
-use Rattle.layers.specs.Spreading.{Spread, Leaves, SetsIn}
+use Rattle.layers.specs.Spreading.{Spread, SetsIn}
 use Rattle.layers.proofs.Bounds.{settings-count}
 use Rattle.layers.proofs.SpreadLaws.{spread-at}
 use Rattle.layers.proofs.Leaving.{LeftBelow, left-none, left-more, left-skip, left-all, left-start, sets-none, sets-more, sets-skip, sets-all, sets-start}
