@@ -12,7 +12,7 @@ use lib.Seq.{append-snoc}
 use lib.Dec.{eqb}
 use borrow.Author.Tests.{eq-eqb, ne-eqb, not-true, not-false}
 use Rattle.model.specs.Result.{Result, ok, refused, andThen}
-use Rattle.model.specs.Network.{Config, Target, read, write, at, tabulate}
+use Rattle.model.specs.Network.{Config, Target, read, write, tabulate}
 use Rattle.model.specs.Path.{ScanPath, bitValue}
 use Rattle.model.specs.Mark.{Got, Pass, sameTrit, holdsBits, withGot, readAt, writtenAt, targetsFrom}
 use Rattle.path.specs.Layout.{wordBit, tritAt, tritsOf, configOf}

@@ -1,49 +1,63 @@
--- Laws of the whole mark: what each ending says of the model's `mark`.
+-- Laws of the whole mark: what each ending says of the model's mark of the texts, and of a plan on an accepted network.
 -- Assumes nothing.
 use mathlib.Core.Path.{_≡_, refl, sym, ap, _∙_, subst}
-use mathlib.Core.List.{List}
+use mathlib.Core.List.{List, []}
 use Prim.Native.Nat.{ℕ}
 use native.Mathlib.Omega.{arith}
-use lib.ListN.{length}
+use lib.ListN.{length, replicate}
 use Rattle.model.specs.Result.{Result, ok, refused, andThen}
 use Rattle.model.specs.Text.{Bytes}
 use Rattle.model.specs.Network.{Config, Network as ModelNetwork}
 use Rattle.model.specs.Path.{ScanPath, Walk, path, stop, walk}
 use Rattle.model.specs.Plan.{Plan}
-use Rattle.model.specs.PlanText.{readPlan}
-use Rattle.model.specs.NetworkText.{readNetwork}
 use Rattle.model.specs.Tap.{planClocks}
 use Rattle.model.specs.Mark.{Pass, Run, targetsFrom, passed, byStart, markPlan, mark}
 use Rattle.model.proofs.PlanTexts.{clocks-bytes}
 use Rattle.path.specs.Answers.{Sized}
-use Rattle.plan_text.proofs.Forms.{GoodText}
+use Rattle.plan_text.specs.Form.{formOf, planForm, HasForm}
+use Rattle.plan_text.specs.declared.Form.{Form}
+use Rattle.plan_text.specs.declared.Form.the-variants.{Good, Refused as Bad}
+use Rattle.plan_text.proofs.Forms.{GoodText, form-good, form-refused}
 use Rattle.network.specs.declared.reader.Network.{Network}
-use Rattle.network.specs.Reads.{networkOf}
+use Rattle.network.specs.declared.reader.Reading.{Reading}
+use Rattle.network.specs.declared.reader.Verdict.{Verdict}
+use Rattle.network.specs.declared.reader.Verdict.the-variants.{Accepted, Refused as Rejected}
+use Rattle.network.specs.Reads.{networkOf, IsReading}
 use Rattle.marker.specs.declared.operations.Ran.{Ran}
 use Rattle.marker.specs.declared.operations.Ran.the-variants.{Done, Refused}
 use Rattle.marker.specs.declared.targets.Mark.{Mark}
-use Rattle.marker.specs.Marks.{markOf, refusedMark, RowsFor}
+use Rattle.marker.specs.Marks.{markOf, refusedMark, RowsFor, Markable, planMark}
 use Rattle.marker.specs.Targets.{Reached, Judgeable, Judges}
-use Rattle.marker.specs.Operations.{configAt, RanAs, Starts, fromStart, Runs}
-use Rattle.network.proofs.Records.{Recorded, target-segment}
+use Rattle.marker.specs.Operations.{Slots, configAt, RanAs, Starts, Startable, fromStart, Runs}
+use Rattle.network.proofs.Lines.{zero-at}
+use Rattle.network.proofs.Records.{Recorded, reading-rejected, reading-recorded, target-segment}
+use Rattle.marker.proofs.Noting.{reached-none}
 
--- ---- refusals of the texts
+-- ---- the texts
 
 pub rows-refused : (m : Mark) (number place : ℕ) → m ≡ refusedMark number place → RowsFor (m .verdict) (m .gots)
 rows-refused m number place e = subst (λ (x : Mark). RowsFor (x .verdict) (x .gots)) (sym e) refl
 
-module _ (n p : Bytes) where
-  pub network-refused : (number place : ℕ) → readNetwork n ≡ refused number place → refused number place ≡ mark n p
+module _ (n p : Bytes) (r : Reading) (is : IsReading n r) where
+  pub network-refused : (number place : ℕ) → r .verdict ≡ Rejected number place → refused number place ≡ mark n p
   unfolding mark
-  network-refused number place e = rw e
+  network-refused number place e = rw (reading-rejected n r is number place e)
 
-  pub plan-refused : (net : ModelNetwork) (place : ℕ) → readNetwork n ≡ ok net → readPlan p ≡ refused 14 place → refused 14 place ≡ mark n p
-  unfolding mark
-  plan-refused net place e f = rw (e, f)
+  module _ (passes : r .verdict ≡ Accepted) where
+    pub network-accepted : planMark (r .network) p ≡ mark n p
+    unfolding mark
+    network-accepted = rw (reading-recorded n r is passes .reads)
 
-  texts-read : (net : ModelNetwork) (plan : Plan) → readNetwork n ≡ ok net → readPlan p ≡ ok plan → mark n p ≡ markPlan net plan
-  unfolding mark
-  texts-read net plan e f = rw (e, f)
+    module _ (f : Form) (e : formOf f ≡ planForm p) where
+      pub plan-refused : (place : ℕ) → f ≡ Bad place → refused 14 place ≡ mark n p
+      plan-refused place q = sym (ap (λ (a : Result Plan). andThen a (markPlan (networkOf (r .network)))) (form-refused p f place e q)) ∙ network-accepted
+
+      pub markable : (lines : ℕ) → f ≡ Good lines → Markable (r .network) p lines
+      markable lines q = record {
+        text = n;
+        reading = subst (λ (v : Verdict). IsReading n record { verdict = v; network = r .network }) passes is;
+        form = sym e ∙ ap formOf q;
+      }
 
 -- ---- the operations, then the targets
 
@@ -58,13 +72,22 @@ by-run net plan = go (walk net (net .start))
     go (path p) = refl
     go (stop m) = refl
 
-module _ (n p : Bytes) (r : Network) (c : Recorded n r) (lines : ℕ) (good : GoodText p lines) where
+module _ (r : Network) (p : Bytes) (lines : ℕ) (m : Markable r p lines) where
   abbrev net : ModelNetwork
   net = networkOf r
 
-  -- what the run asks
-  pub starts : Starts net (r .nodes) (r .tally) (r .bits) (r .known)
+  c : Recorded (m .text) r
+  c = reading-recorded (m .text) record { verdict = Accepted; network = r } (m .reading) refl
+
+  good : GoodText p lines
+  good = form-good p (Good lines) lines (sym (m .form)) refl
+
+  starts : Starts net (r .nodes) (r .tally) (r .bits) (r .known)
   starts = record { stored = c .stored; start = refl; tame = c .filled .tame; sized = record { words = c .filled .bits-size; marks = c .filled .known-size } }
+
+  -- what the run asks
+  pub runnable : HasForm p × (Startable (r .nodes) (r .tally) (r .bits) (r .known) × (Slots (replicate 4 0) (replicate 4 0) × Reached (r .tally) (replicate 4 0) (replicate 4 0) []))
+  runnable = ((good .plan, good .reads), ((net, starts), (record { first-size = refl; places-size = refl }, reached-none (r .tally) (replicate 4 0) (replicate 4 0) (λ i lt. zero-at 4 i))))
 
   module _ (ran : Ran) (bits known first places : List ℕ) (runs : Runs (r .nodes) (r .tally) p (r .bits) (r .known) ran bits known first places) where
     abbrev whole : Result Run
@@ -73,10 +96,10 @@ module _ (n p : Bytes) (r : Network) (c : Recorded n r) (lines : ℕ) (good : Go
     ran-as : RanAs (r .nodes) (r .tally) ran bits known first places whole
     ran-as = runs net (good .plan) (good .reads) starts
 
-    marks-by : mark n p ≡ andThen whole (thenTargets net (good .plan))
-    marks-by = texts-read n p net (good .plan) (c .reads) (good .reads) ∙ by-run net (good .plan)
+    marks-by : planMark r p ≡ andThen whole (thenTargets net (good .plan))
+    marks-by = ap (λ (a : Result Plan). andThen a (markPlan net)) (good .reads) ∙ by-run net (good .plan)
 
-    pub run-refused : (number place : ℕ) → ran ≡ Refused number place → refused number place ≡ mark n p
+    pub run-refused : (number place : ℕ) → ran ≡ Refused number place → refused number place ≡ planMark r p
     run-refused number place e = sym (marks-by ∙ ap (λ (a : Result Run). andThen a (thenTargets net (good .plan))) (go whole ran-as))
       where
         go : (a : Result Run) → RanAs (r .nodes) (r .tally) ran bits known first places a → a ≡ refused number place
@@ -102,16 +125,16 @@ module _ (n p : Bytes) (r : Network) (c : Recorded n r) (lines : ℕ) (good : Go
     judgeable e = record {
       tame = c .filled .tame;
       sized = finished e .sized;
-      least = λ i lt. target-segment n r c i lt .least;
-      most = λ i lt. target-segment n r c i lt .most;
-      short = λ i lt. target-segment n r c i lt .short;
+      least = λ i lt. target-segment (m .text) r c i lt .least;
+      most = λ i lt. target-segment (m .text) r c i lt .most;
+      short = λ i lt. target-segment (m .text) r c i lt .short;
     }
 
     abbrev ending : List ScanPath → Config → ℕ → ℕ → Result Pass
-    ending ps x k m = andThen (targetsFrom 1 ps x (net .targets)) (λ gs. ok record { operations = k; clocks = m; gots = gs })
+    ending ps x k l = andThen (targetsFrom 1 ps x (net .targets)) (λ gs. ok record { operations = k; clocks = l; gots = gs })
 
-    pub judged : (m : Mark) → ran ≡ Done → Judges (r .nodes) (r .tally) bits known first places lines (length p) m → markOf m ≡ mark n p
-    judged m e j =
+    pub judged : (a : Mark) → ran ≡ Done → Judges (r .nodes) (r .tally) bits known first places lines (length p) a → markOf a ≡ planMark r p
+    judged a e j =
         let f = finished e in
         let many : length p ≡ length (planClocks (good .plan)) = ap length (good .text) ∙ clocks-bytes (good .plan) in
         j (f .run .paths) (f .reached)

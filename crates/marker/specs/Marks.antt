@@ -1,12 +1,18 @@
--- The marker's answer.
+-- The marker's answer, and that of its work on an accepted network.
 -- Assumes nothing.
 use mathlib.Core.Path.{_≡_}
 use mathlib.Core.List.{List}
 use Prim.Native.Nat.{ℕ, _≤_}
 use lib.ListN.{length, getD, replicate}
-use Rattle.model.specs.Result.{Result, ok, refused}
+use Rattle.model.specs.Result.{Result, ok, refused, andThen}
+use Rattle.model.specs.Text.{Bytes}
 use Rattle.model.specs.Network.{tabulate}
-use Rattle.model.specs.Mark.{Got, Pass}
+use Rattle.model.specs.PlanText.{readPlan}
+use Rattle.model.specs.Mark.{Got, Pass, markPlan}
+use Rattle.plan_text.specs.Form.{planForm}
+use Rattle.network.specs.declared.reader.Network.{Network}
+use Rattle.network.specs.declared.reader.Verdict.the-variants.{Accepted}
+use Rattle.network.specs.Reads.{networkOf, IsReading}
 use Rattle.marker.specs.declared.targets.Verdict.{Verdict}
 use Rattle.marker.specs.declared.targets.Verdict.the-variants.{Pass as Passed, Refused}
 use Rattle.marker.specs.declared.targets.Gots.{Gots}
@@ -44,3 +50,15 @@ refusedMark number place = record { verdict = Refused number place; gots = noGot
 abbrev pub RowsFor : Verdict → Gots → Type 0
 RowsFor (Passed lines clocks) g = Blank g
 RowsFor (Refused number place) g = g ≡ noGots
+
+-- ---- the texts read
+
+-- a record that is the reading of an accepted network text, and a plan text of good form with this many lines
+pub record Markable (r : Network) (p : Bytes) (lines : ℕ) : Type 0 where
+  pub text : Bytes
+  pub reading : IsReading text record { verdict = Accepted; network = r }
+  pub form : planForm p ≡ ok lines
+
+-- the model's mark of a plan text on a record's network
+abbrev pub planMark : Network → Bytes → Result Pass
+planMark r p = andThen (readPlan p) (markPlan (networkOf r))

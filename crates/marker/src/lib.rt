@@ -4,18 +4,54 @@ use crate::operations::run_plan;
 use crate::targets::Mark;
 use crate::targets::judge;
 use crate::targets::refused;
+use network::reader::Network;
 use network::reader::Verdict;
 use network::reader::read_network;
 use plan_text::Form;
 use plan_text::check_form;
 ghost use mathlib.Core.Path.{_≡_};
 ghost use Rattle.model.specs.Mark.{mark as markOfTexts};
-ghost use Rattle.marker.specs.Marks.{markOf, RowsFor};
+ghost use Rattle.marker.specs.Marks.{markOf, RowsFor, Markable, planMark};
 
 pub mod operations;
 pub mod targets;
 
-// The marker: the network's refusals, then the plan's form, its operations in turn, and the targets.
+// The mark of a plan of good form on an accepted network: the operations in turn, then the targets.
+fn mark_operations(net: Network, plan: &[u8], lines: usize) -> Mark
+    requires { ⌜ Markable net (now plan) lines ⌝ }
+    ensures { λ r. ⌜ markOf r ≡ planMark net (now (plan .entry)) ⌝ }
+    ensures { λ r. ⌜ RowsFor (r .verdict) (r .gots) ⌝ }
+{
+    let tally = net.tally;
+    let mut bits = net.bits;
+    let mut known = net.known;
+    let mut first = [0usize; 4];
+    let mut places = [0usize; 4];
+    let ran = run_plan(
+        &net.nodes,
+        tally,
+        plan,
+        &mut bits,
+        &mut known,
+        &mut first,
+        &mut places,
+    );
+    match ran {
+        Ran::Refused(number, place) => refused(number, place),
+        Ran::Done => judge(
+            &net.nodes,
+            tally,
+            &bits,
+            &known,
+            &first,
+            &places,
+            lines,
+            plan.len(),
+        ),
+    }
+}
+
+// The marker: the network's refusals, then the plan's form, its operations and the targets.
 pub fn mark(network: &[u8], plan: &[u8]) -> Mark
     ensures { λ r. ⌜ markOf r ≡ markOfTexts (now (network .entry)) (now (plan .entry)) ⌝ }
     ensures { λ r. ⌜ RowsFor (r .verdict) (r .gots) ⌝ }
@@ -32,34 +68,6 @@ pub fn mark(network: &[u8], plan: &[u8]) -> Mark
     let form = check_form(plan);
     match form {
         Form::Refused(place) => refused(14, place),
-        Form::Good(lines) => {
-            let tally = net.tally;
-            let mut bits = net.bits;
-            let mut known = net.known;
-            let mut first = [0usize; 4];
-            let mut places = [0usize; 4];
-            let ran = run_plan(
-                &net.nodes,
-                tally,
-                plan,
-                &mut bits,
-                &mut known,
-                &mut first,
-                &mut places,
-            );
-            match ran {
-                Ran::Refused(number, place) => refused(number, place),
-                Ran::Done => judge(
-                    &net.nodes,
-                    tally,
-                    &bits,
-                    &known,
-                    &first,
-                    &places,
-                    lines,
-                    plan.len(),
-                ),
-            }
-        }
+        Form::Good(lines) => mark_operations(net, plan, lines),
     }
 }

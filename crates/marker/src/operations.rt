@@ -13,7 +13,7 @@ use path::walk::find_path;
 use plan_text::bits_at;
 ghost use mathlib.Core.List.{[]};
 ghost use Prim.Native.Nat.{_≤_, _<_};
-ghost use lib.ListN.{length, take};
+ghost use lib.ListN.{take};
 ghost use Rattle.path.specs.Answers.{HoldsPath};
 ghost use Rattle.path.specs.Layout.{scanPath};
 ghost use Rattle.marker.specs.Targets.{Reached};
