@@ -14,7 +14,7 @@ use lib.ListN.{getD, set, replicate, length-replicate}
 use lib.Seq.{getD-set-same, getD-set-other}
 use Rattle.model.specs.Network.{Network}
 use Rattle.model.proofs.Accepted.{Accepted}
-use Rattle.model.proofs.Lists.{true-false}
+use Rattle.model.proofs.Lists.{true-false, zero-at}
 use Rattle.path.specs.Layout.{wordBit}
 use Rattle.path.proofs.WordLaws.{zero-bit}
 use Rattle.network.proofs.Nodes.{wordBit-pow}
@@ -53,11 +53,6 @@ layer-same start i tab tab′ others zero s le = refl
 layer-same start i tab tab′ others (suc j) s le = slot-other tab tab′ i j s others (λ z. omega arith)
 
 -- ---- the first layer
-
-zero-at : (n i : ℕ) → _≡_ {A = ℕ} (getD (replicate n 0) i 0) 0
-zero-at zero i = refl
-zero-at (suc n) zero = refl
-zero-at (suc n) (suc i) = zero-at n i
 
 -- of n settings, only the start has been met, with no target reached
 pub seen-start : (n start s : ℕ) → start < n → inSeen (set (replicate n 0) start 1) s ≡ true → s ≡ start * 16

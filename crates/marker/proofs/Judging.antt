@@ -3,7 +3,7 @@
 use mathlib.Core.Path.{_≡_, refl, sym, ap, _∙_}
 use mathlib.Core.Bool.{Bool, true, false, cond, not, _&&_}
 use mathlib.Core.Option.{Option, none, some}
-use mathlib.Core.List.{List, [], _∷_, _++_, append-nil}
+use mathlib.Core.List.{List, _∷_, _++_, append-nil}
 use Prim.Native.Nat.{ℕ, zero, suc, _+_, _-_, _≤_, _<_}
 use native.Mathlib.Omega.{arith}
 use native.Mathlib.Numerals.{add-one}
@@ -15,6 +15,7 @@ use Rattle.model.specs.Result.{Result, ok, refused, andThen}
 use Rattle.model.specs.Network.{Config, Target, read, write, tabulate}
 use Rattle.model.specs.Path.{ScanPath, bitValue}
 use Rattle.model.specs.Mark.{Got, Pass, sameTrit, holdsBits, withGot, readAt, writtenAt, targetsFrom}
+use Rattle.model.proofs.Lists.{tabulate-whole, tabulate-step, tabulate-none}
 use Rattle.path.specs.Layout.{wordBit, tritAt, tritsOf, configOf}
 use Rattle.path.proofs.ConfigLaws.{config-row}
 use Rattle.network.specs.declared.draft.Tally.{Tally}
@@ -25,17 +26,6 @@ use Rattle.marker.specs.Marks.{gotsOf, Blank, noGots, refusedMark}
 use Rattle.marker.specs.Targets.{accessOf, Reached, Pushed, segmentOf, Judgeable, lenAt, isHeld, Judges}
 use Rattle.marker.proofs.Rows.{blank-none}
 
--- ---- lists from number i on, up to number n
-
-from-first : {A : Type 0} (f : ℕ → A) (n : ℕ) → tabulate f 0 (n - 0) ≡ tabulate f 0 n
-from-first f n = let e : n - 0 ≡ n = omega arith in rw e
-
-from-step : {A : Type 0} (f : ℕ → A) (i n : ℕ) → i < n → tabulate f i (n - i) ≡ f i ∷ tabulate f (i + 1) (n - (i + 1))
-from-step f i n l = let e : n - i ≡ suc (n - (i + 1)) = omega arith in rw (e, add-one i)
-
-from-last : {A : Type 0} (f : ℕ → A) (i n : ℕ) → n ≤ i → tabulate f i (n - i) ≡ []
-from-last f i n l = let e : n - i ≡ 0 = omega arith in rw e
-
 -- ---- bits
 
 module _ (bits known want len : ℕ) where
@@ -44,14 +34,14 @@ module _ (bits known want len : ℕ) where
   heldFrom b = holdsBits (tabulate (tritAt bits known) b (len - b)) (tabulate (wordBit want) b (len - b))
 
   pub bits-first : heldFrom 0 ≡ holdsBits (tritsOf len bits known) (tabulate (wordBit want) 0 len)
-  bits-first = rw (from-first (tritAt bits known) len, from-first (wordBit want) len)
+  bits-first = rw (tabulate-whole (tritAt bits known) len, tabulate-whole (wordBit want) len)
 
   pub bits-last : (b : ℕ) → len ≤ b → true ≡ heldFrom b
-  bits-last b l = rw (from-last (tritAt bits known) b len l, from-last (wordBit want) b len l)
+  bits-last b l = rw (tabulate-none (tritAt bits known) b len l, tabulate-none (wordBit want) b len l)
 
   module _ (b : ℕ) (l : b < len) where
     by-bit : heldFrom b ≡ (sameTrit (tritAt bits known b) (wordBit want b) && heldFrom (b + 1))
-    by-bit = rw (from-step (tritAt bits known) b len l, from-step (wordBit want) b len l)
+    by-bit = rw (tabulate-step (tritAt bits known) b len l, tabulate-step (wordBit want) b len l)
 
     pub bit-unknown : bitValue (wordBit known b) ≡ 0 → false ≡ heldFrom b
     bit-unknown e = go (wordBit known b) e ∙ sym by-bit
@@ -112,7 +102,7 @@ module _ (ns : List ℕ) (t : Tally) (bits known first places : List ℕ) (lines
     within = omega arith;
     rows = omega arith;
     blank = blank-none;
-    rest = λ ps reached. ap (λ (ts : List Target). andThen (targetsFrom 1 ps conf ts) (passedWith lines clocks)) (sym (from-first (targetAt ns t) (t .«target_count»)));
+    rest = λ ps reached. ap (λ (ts : List Target). andThen (targetsFrom 1 ps conf ts) (passedWith lines clocks)) (sym (tabulate-whole (targetAt ns t) (t .«target_count»)));
   }
 
   module _ (gots : Gots) (i : ℕ) (w : Judging ns t bits known first places lines clocks gots i) where
@@ -122,7 +112,7 @@ module _ (ns : List ℕ) (t : Tally) (bits known first places : List ℕ) (lines
     pub judged-last : t .«target_count» ≤ i → Judges ns t bits known first places lines clocks record { verdict = Passed lines clocks; gots = gots }
     unfolding targetsFrom
     judged-last l ps reached =
-        sym (w .rest ps reached ∙ ap (λ (ts : List Target). andThen (targetsFrom (suc i) ps conf ts) onward) (from-last (targetAt ns t) i (t .«target_count») l)
+        sym (w .rest ps reached ∙ ap (λ (ts : List Target). andThen (targetsFrom (suc i) ps conf ts) onward) (tabulate-none (targetAt ns t) i (t .«target_count») l)
         ∙ ap (passedWith lines clocks) (append-nil (gotsOf gots)))
 
     module _ (j : Judgeable ns t bits known) (l : i < t .«target_count») where
@@ -147,7 +137,7 @@ module _ (ns : List ℕ) (t : Tally) (bits known first places : List ℕ) (lines
           → andThen (targetsFrom 1 ps conf (targetsOf ns t)) (passedWith lines clocks) ≡ answer (eqb word 1) (accessOf operation (getD places i 0)) (isHeld ns t bits known i) (later ps)
       unfolding targetsFrom
       by-target ps reached =
-          w .rest ps reached ∙ ap (λ (ts : List Target). andThen (targetsFrom (suc i) ps conf ts) onward) (from-step (targetAt ns t) i (t .«target_count») l)
+          w .rest ps reached ∙ ap (λ (ts : List Target). andThen (targetsFrom (suc i) ps conf ts) onward) (tabulate-step (targetAt ns t) i (t .«target_count») l)
           ∙ go (eqb word 1)
         where
           go : (b : Bool)

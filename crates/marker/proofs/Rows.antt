@@ -2,24 +2,18 @@
 -- Assumes nothing.
 use mathlib.Core.Path.{_≡_, refl, ap, _∙_}
 use mathlib.Core.List.{List, [], _∷_, _++_}
-use Prim.Native.Nat.{ℕ, zero, suc, _+_, _<_}
+use Prim.Native.Nat.{ℕ, _+_, _<_}
 use native.Mathlib.Omega.{arith}
 use native.Mathlib.Nat.{zero-add}
 use native.Mathlib.Numerals.{add-one}
-use lib.ListN.{getD, set, replicate, length-set}
+use lib.ListN.{set, length-set}
 use lib.Seq.{getD-set-same, getD-set-other}
 use Rattle.model.specs.Mark.{Got}
 use Rattle.model.specs.Network.{tabulate}
-use Rattle.model.proofs.Lists.{tabulate-cong}
-use Rattle.network.proofs.Drawing.{tabulate-snoc}
+use Rattle.model.proofs.Lists.{zero-at, tabulate-cong, tabulate-snoc}
 use Rattle.marker.specs.declared.targets.Gots.{Gots}
 use Rattle.marker.specs.Marks.{gotRow, gotsOf, Blank, noGots}
 use Rattle.marker.specs.Targets.{Pushed}
-
-zero-at : (n i : ℕ) → _≡_ {A = ℕ} (getD (replicate n 0) i 0) 0
-zero-at zero i = refl
-zero-at (suc n) zero = refl
-zero-at (suc n) (suc i) = zero-at n i
 
 pub blank-none : Blank noGots
 blank-none = record {

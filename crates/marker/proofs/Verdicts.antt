@@ -12,6 +12,7 @@ use Rattle.model.specs.Path.{ScanPath, Walk, path, stop, walk}
 use Rattle.model.specs.Plan.{Plan}
 use Rattle.model.specs.Tap.{planClocks}
 use Rattle.model.specs.Mark.{Pass, Run, targetsFrom, passed, byStart, markPlan, mark}
+use Rattle.model.proofs.Lists.{zero-at}
 use Rattle.model.proofs.PlanTexts.{clocks-bytes}
 use Rattle.path.specs.Answers.{Sized}
 use Rattle.plan_text.specs.Form.{formOf, planForm, HasForm}
@@ -29,7 +30,6 @@ use Rattle.marker.specs.declared.targets.Mark.{Mark}
 use Rattle.marker.specs.Marks.{markOf, refusedMark, RowsFor, Markable, planMark}
 use Rattle.marker.specs.Targets.{Reached, Judgeable, Judges}
 use Rattle.marker.specs.Operations.{Slots, configAt, RanAs, Starts, Startable, fromStart, Runs}
-use Rattle.network.proofs.Lines.{zero-at}
 use Rattle.network.proofs.Records.{Recorded, reading-rejected, reading-recorded, target-segment}
 use Rattle.marker.proofs.Noting.{reached-none}
 

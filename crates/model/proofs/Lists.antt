@@ -3,11 +3,12 @@
 use mathlib.Core.Path.{_≡_, refl, sym, ap, _∙_, subst}
 use mathlib.Core.Bool.{Bool, true, false, _&&_, _||_}
 use mathlib.Core.Option.{none, some}
-use mathlib.Core.List.{List, [], _∷_, map}
-use Prim.Native.Nat.{ℕ, zero, suc, _+_, _≤_, _<_}
+use mathlib.Core.List.{List, [], _∷_, _++_, map}
+use Prim.Native.Nat.{ℕ, zero, suc, _+_, _-_, _≤_, _<_}
 use native.Mathlib.Omega.{arith}
 use native.Mathlib.Nat.{suc-add, add-suc, add-zero, le-of-suc-le-suc, not-suc-le-zero}
-use lib.ListN.{length, getD, take, drop}
+use native.Mathlib.Numerals.{add-one}
+use lib.ListN.{length, getD, take, drop, replicate}
 use lib.Dec.{eqb, T, eqb-refl, eqb→eq}
 use Rattle.model.specs.Network.{at, mapFrom, tabulate}
 use Rattle.model.specs.Path.{place}
@@ -126,6 +127,11 @@ pub at-mapFrom : {A B : Type 0} (f : ℕ → A → B) (l : List A) (s : ℕ) (a 
 at-mapFrom f l zero a b h u = absurd (not-suc-le-zero h)
 at-mapFrom f l (suc n) a b h u = getD-mapFrom 1 f l n a b u ∙ ap (λ (k : ℕ). f k (getD l n a)) (let z : 1 + n ≡ suc n = omega arith in z)
 
+pub zero-at : (n i : ℕ) → _≡_ {A = ℕ} (getD (replicate n 0) i 0) 0
+zero-at zero i = refl
+zero-at (suc n) zero = refl
+zero-at (suc n) (suc i) = zero-at n i
+
 -- ---- tabulate
 
 pub length-tabulate : {A : Type 0} (f : ℕ → A) (i n : ℕ) → length (tabulate f i n) ≡ n
@@ -144,3 +150,18 @@ tabulate-cong f g i (suc n) e =
     let b : tabulate f (suc i) n ≡ tabulate g (suc i) n = tabulate-cong f g (suc i) n
     (λ x l. ap f (suc-add i x ∙ sym (add-suc i x)) ∙ e (suc x) (omega arith) ∙ ap g (add-suc i x ∙ sym (suc-add i x))) in
     rw (a, b)
+
+-- one more at the end
+pub tabulate-snoc : {A : Type 0} (f : ℕ → A) (i n : ℕ) → tabulate f i (suc n) ≡ tabulate f i n ++ f (i + n) ∷ []
+tabulate-snoc f i zero = ap (λ (k : ℕ). f k ∷ []) (sym (add-zero i))
+tabulate-snoc f i (suc n) = ap (λ (l : List _). f i ∷ l) (tabulate-snoc f (suc i) n ∙ ap (λ (k : ℕ). tabulate f (suc i) n ++ f k ∷ []) (suc-add i n ∙ sym (add-suc i n)))
+
+-- from number i on, up to number n: from 0, one step on, and at the end
+pub tabulate-whole : {A : Type 0} (f : ℕ → A) (n : ℕ) → tabulate f 0 (n - 0) ≡ tabulate f 0 n
+tabulate-whole f n = let e : n - 0 ≡ n = omega arith in rw e
+
+pub tabulate-step : {A : Type 0} (f : ℕ → A) (i n : ℕ) → i < n → tabulate f i (n - i) ≡ f i ∷ tabulate f (i + 1) (n - (i + 1))
+tabulate-step f i n l = let e : n - i ≡ suc (n - (i + 1)) = omega arith in rw (e, add-one i)
+
+pub tabulate-none : {A : Type 0} (f : ℕ → A) (i n : ℕ) → n ≤ i → tabulate f i (n - i) ≡ []
+tabulate-none f i n l = let e : n - i ≡ 0 = omega arith in rw e

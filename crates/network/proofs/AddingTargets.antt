@@ -15,7 +15,7 @@ use borrow.Author.Tests.{eq-eqb, ne-eqb, le-leb, lt-leb, leb-true, not-false}
 use Rattle.model.specs.Result.{Result, ok, refused}
 use Rattle.model.specs.Network.{Node, segment, multiplexer, Target, read, write, at, noNode, hasShadow, lenOf, addressBits, tabulate, steers, steersAt, addressIn, isSteering}
 use Rattle.model.specs.NetworkText.{Draft, hasOut, isSome, badAddress, fitsTarget, sameTarget, isTarget, targetSegment, addFitting, addTarget, withTarget}
-use Rattle.model.proofs.Lists.{true-false, and-parts, or-left, or-right, eqb-same, tabulate-cong}
+use Rattle.model.proofs.Lists.{true-false, and-parts, or-left, or-right, eqb-same, tabulate-cong, tabulate-snoc}
 use Rattle.model.proofs.Reading.{Stage, no-out, behind-out, sound-target}
 use Rattle.model.proofs.Accepted.{no-bad, unsteered-bits}
 use Rattle.path.specs.Layout.{nodeAt, wordWidth, wordBit}
@@ -23,7 +23,7 @@ use Rattle.network.specs.declared.draft.Tally.{Tally}
 use Rattle.network.specs.declared.add.Refusal.{Refusal}
 use Rattle.network.specs.Draws.{Draws, targetAt, targetsOf, targetFor, sameWord, Agrees}
 use Rattle.network.specs.Added.{IsWord}
-use Rattle.network.proofs.Drawing.{tabulate-snoc, drawn-short}
+use Rattle.network.proofs.Drawing.{drawn-short}
 
 -- ---- a repeat
 

@@ -5,7 +5,6 @@ use mathlib.Core.Bool.{Bool, true, false, cond, _||_}
 use mathlib.Core.List.{List, [], _∷_, _++_}
 use Prim.Native.Nat.{ℕ, zero, suc, _+_, _≤_, _<_}
 use native.Mathlib.Omega.{arith}
-use native.Mathlib.Nat.{add-zero, add-suc, suc-add}
 use native.Mathlib.Decide.{decLt}
 use lib.ListN.{length, getD, List·getD-eq-default}
 use lib.Dec.{eqb, leb, ltb}
@@ -32,11 +31,7 @@ agrees-refused D a r number place e f = subst (λ (x : Result Draft). Agrees D x
 pub agrees-ok : (D : Draft → Type 0) (a : Result Draft) (r : Refusal) (d : Draft) → a ≡ ok d → r ≡ Nothing → D d → Agrees D a r
 agrees-ok D a r d e f x = subst (λ (y : Result Draft). Agrees D y r) (sym e) (f, x)
 
--- ---- lists by number
-
-pub tabulate-snoc : {A : Type 0} (f : ℕ → A) (i n : ℕ) → tabulate f i (suc n) ≡ tabulate f i n ++ f (i + n) ∷ []
-tabulate-snoc f i zero = ap (λ (k : ℕ). f k ∷ []) (sym (add-zero i))
-tabulate-snoc f i (suc n) = ap (λ (l : List _). f i ∷ l) (tabulate-snoc f (suc i) n ∙ ap (λ (k : ℕ). tabulate f (suc i) n ++ f k ∷ []) (suc-add i n ∙ sym (add-suc i n)))
+-- ---- nodes
 
 -- steering bits of one node more
 pub steers-more : (ns : List Node) (x : Node) (s b : ℕ) → steers (ns ++ x ∷ []) s b ≡ (steers ns s b || steersAt x s b)

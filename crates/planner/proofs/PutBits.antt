@@ -13,10 +13,9 @@ use Rattle.model.specs.Network.{Network, tabulate, steers}
 use Rattle.model.specs.Path.{ScanPath, pathLength}
 use Rattle.model.specs.Plan.{wanted}
 use Rattle.model.specs.Tap.{bitByte}
-use Rattle.model.proofs.Lists.{length-tabulate}
+use Rattle.model.proofs.Lists.{length-tabulate, tabulate-snoc}
 use Rattle.path.specs.Layout.{wordBit}
 use Rattle.path.proofs.WordLaws.{zero-bit}
-use Rattle.network.proofs.Drawing.{tabulate-snoc}
 use Rattle.plan_text.specs.Writing.{writeAt}
 use Rattle.plan_text.proofs.Writing.{write-none, write-more, write-behind}
 use Rattle.search.specs.Choices.{placesOf, bitAt, leftAt, bitsFrom, leftAfter}

@@ -11,9 +11,8 @@ use lib.ListN.{length, getD, set, length-set, length-append}
 use lib.Seq.{getD-set-same, getD-set-other}
 use Rattle.model.specs.Network.{Node, lenOf, tabulate, steers, steeringIn, steeringFrom, steeringBits}
 use Rattle.model.specs.Path.{bitValue}
-use Rattle.model.proofs.Lists.{length-tabulate, tabulate-cong}
+use Rattle.model.proofs.Lists.{length-tabulate, tabulate-cong, tabulate-snoc}
 use Rattle.path.specs.Layout.{nodeAt, nodesOf, wordWidth, wordBit}
-use Rattle.network.proofs.Drawing.{tabulate-snoc}
 use Rattle.settings.specs.Steering.{pairAt, bitsOf, Pairs, markedIn, Behind, Steered}
 
 pub length-bits : (segments places : List ℕ) (k : ℕ) → length (bitsOf segments places k) ≡ k
