@@ -151,6 +151,12 @@ tabulate-cong f g i (suc n) e =
     (λ x l. ap f (suc-add i x ∙ sym (add-suc i x)) ∙ e (suc x) (omega arith) ∙ ap g (add-suc i x ∙ sym (suc-add i x))) in
     rw (a, b)
 
+pub tabulate-of : {A : Type 0} (f : ℕ → A) (i : ℕ) (w : List A) (d : A) → ((b : ℕ) → f (i + b) ≡ getD w b d) → tabulate f i (length w) ≡ w
+tabulate-of f i [] d e = refl
+tabulate-of f i (x ∷ w) d e =
+    let h : f i ≡ x = ap f (sym (add-zero i)) ∙ e 0 in
+    rw (h, tabulate-of f (suc i) w d (λ b. ap f (suc-add i b ∙ sym (add-suc i b)) ∙ e (suc b)))
+
 -- one more at the end
 pub tabulate-snoc : {A : Type 0} (f : ℕ → A) (i n : ℕ) → tabulate f i (suc n) ≡ tabulate f i n ++ f (i + n) ∷ []
 tabulate-snoc f i zero = ap (λ (k : ℕ). f k ∷ []) (sym (add-zero i))
