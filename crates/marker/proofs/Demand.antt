@@ -15,7 +15,7 @@ use Rattle.model.specs.Mark.{Got, Pass, mark}
 use Rattle.model.specs.Calls.{clocksOf, clocksWritten, writeClocks}
 use Rattle.model.specs.Demands.{AcceptedAndValid, AsWritten}
 use Rattle.model.proofs.Lists.{not-ok, ok-is}
-use Rattle.model.proofs.Marking.{marked}
+use Rattle.model.proofs.Marking.{passed-run}
 use Rattle.model.proofs.MarkerDemand.{marked-texts}
 use Rattle.model.proofs.Demands.{marker, clocks as written, played}
 use Rattle.tap.specs.declared.Written.{Written}
@@ -83,7 +83,7 @@ pass-borne-out n p m lines count e q tms tdi w tms′ tdi′ wrote a b = (
     list-is = clocks-of p (v .plan) (v .reads)
 
     many : length (planClocks (v .plan)) ≡ count
-    many = marked (v .net) (v .plan) pass (marked-texts n p (v .net) (v .plan) pass (v .accepted) (v .reads) is) .as-many
+    many = passed-run (v .net) (v .plan) pass (marked-texts n p (v .net) (v .plan) pass (v .accepted) (v .reads) is) .as-many
 
     result : writeClocks p tms tdi .result ≡ ok count
     result = with-room p (planClocks (v .plan)) tms tdi list-is (omega (arith, many)) (omega (arith, many)) ∙ ap ok many

@@ -14,7 +14,7 @@ use Rattle.model.specs.Tap.{planClocks}
 use Rattle.model.specs.Mark.{Pass, Run, targetsFrom, passed, byStart, markPlan, mark}
 use Rattle.model.proofs.Lists.{zero-at}
 use Rattle.model.proofs.PlanTexts.{clocks-bytes}
-use Rattle.path.specs.Answers.{Sized}
+use Rattle.path.specs.Answers.{ConfigSized}
 use Rattle.plan_text.specs.Form.{formOf, planForm, HasForm}
 use Rattle.plan_text.specs.declared.Form.{Form}
 use Rattle.plan_text.specs.declared.Form.the-variants.{Good, Refused as Bad}
@@ -111,7 +111,7 @@ module _ (r : Network) (p : Bytes) (lines : ℕ) (m : Markable r p lines) where
       is : whole ≡ ok run
       last : configAt (r .nodes) (r .tally) bits known ≡ run .last
       reached : Reached (r .tally) first places (run .paths)
-      sized : Sized bits known
+      sized : ConfigSized bits known
 
     finished : ran ≡ Done → Finished
     finished e = go whole refl ran-as

@@ -28,8 +28,8 @@ use Rattle.marker.specs.Marks.{gotsOf, markOf}
 -- ---- the contracts of the two calls
 
 -- `mark` returned m for two texts
-abbrev pub Marked : Bytes → Bytes → Mark → Type 0
-Marked n p m = markOf m ≡ mark n p
+abbrev pub MarkReturned : Bytes → Bytes → Mark → Type 0
+MarkReturned n p m = markOf m ≡ mark n p
 
 -- `write_clocks` returned w for a plan text, and left the buffers tms and tdi as tms′ and tdi′
 pub record WroteClocks (p : Bytes) (tms tdi : List ℕ) (w : Written) (tms′ tdi′ : List ℕ) : Type 0 where
@@ -40,7 +40,7 @@ pub record WroteClocks (p : Bytes) (tms tdi : List ℕ) (w : Written) (tms′ td
 -- ---- "The marker passes two texts exactly when the network is accepted and the plan (at most 16 operations) is valid for it."
 
 abbrev pub PassesExactly : Type 0
-PassesExactly = (n p : Bytes) (m : Mark) → Marked n p m → ((lines clocks : ℕ) × (m .verdict ≡ Pass lines clocks)) ↔ AcceptedAndValid n p
+PassesExactly = (n p : Bytes) (m : Mark) → MarkReturned n p m → ((lines clocks : ℕ) × (m .verdict ≡ Pass lines clocks)) ↔ AcceptedAndValid n p
 
 -- ---- "For a passed plan, whatever the unknown start bits are and whatever each capture brings, for the WHOLE list of its
 -- clocks played from Run-Test/Idle on document 01's test frame: .."
@@ -60,6 +60,6 @@ pub record BorneOut (n p : Bytes) (m : Mark) (lines clocks : ℕ) (tms tdi : Lis
 
 -- with room for the clocks reported, `write_clocks` writes them for the same plan text
 abbrev pub PassBorneOut : Type 0
-PassBorneOut = (n p : Bytes) (m : Mark) (lines clocks : ℕ) → Marked n p m → m .verdict ≡ Pass lines clocks
+PassBorneOut = (n p : Bytes) (m : Mark) (lines clocks : ℕ) → MarkReturned n p m → m .verdict ≡ Pass lines clocks
     → (tms tdi : List ℕ) (w : Written) (tms′ tdi′ : List ℕ) → WroteClocks p tms tdi w tms′ tdi′ → clocks ≤ length tms → clocks ≤ length tdi
     → (w ≡ Clocks clocks) × BorneOut n p m lines clocks tms′ tdi′

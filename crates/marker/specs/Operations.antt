@@ -14,7 +14,7 @@ use Rattle.model.specs.PlanText.{readPlan}
 use Rattle.model.specs.Planner.{orNext}
 use Rattle.model.specs.Mark.{Run, orLater, runFrom}
 use Rattle.path.specs.Layout.{configOf, scanPath, byteBit}
-use Rattle.path.specs.Answers.{Sized}
+use Rattle.path.specs.Answers.{ConfigSized}
 use Rattle.path.specs.Stored.{Stored, PathFound}
 use Rattle.network.specs.declared.draft.Tally.{Tally}
 use Rattle.network.specs.Draws.{Tame}
@@ -55,7 +55,7 @@ pub record OnPath (net : Network) (ns : List ℕ) (t : Tally) (way : List ℕ) (
   pub stored : Stored net ns (t .count) (t .out)
   pub found : PathFound net (configAt ns t bits known) ns way n
   pub tame : Tame t
-  pub sized : Sized bits known
+  pub sized : ConfigSized bits known
 
 abbrev pub OnSomePath : List ℕ → Tally → List ℕ → ℕ → List ℕ → List ℕ → Type 0
 OnSomePath ns t way n bits known = (net : Network) × OnPath net ns t way n bits known
@@ -82,7 +82,7 @@ Operates ns t scan k way n bits known first places r way′ bits′ known′ fir
 
 -- what an answer says of the model's run
 abbrev pub RanAs : List ℕ → Tally → Ran → List ℕ → List ℕ → List ℕ → List ℕ → Result Run → Type 0
-RanAs ns t r bits known first places (ok run) = (r ≡ Done) × (configAt ns t bits known ≡ run .last) × Reached t first places (run .paths) × Sized bits known
+RanAs ns t r bits known first places (ok run) = (r ≡ Done) × (configAt ns t bits known ≡ run .last) × Reached t first places (run .paths) × ConfigSized bits known
 RanAs ns t r bits known first places (refused number at) = r ≡ Refused number at
 
 abbrev pub RunsFrom : List ℕ → Tally → Bytes → List ℕ → ℕ → List ℕ → List ℕ → Ran → List ℕ → List ℕ → List ℕ → List ℕ → Type 0
@@ -97,7 +97,7 @@ pub record Starts (net : Network) (ns : List ℕ) (t : Tally) (bits known : List
   pub stored : Stored net ns (t .count) (t .out)
   pub start : configAt ns t bits known ≡ net .start
   pub tame : Tame t
-  pub sized : Sized bits known
+  pub sized : ConfigSized bits known
 
 abbrev pub Startable : List ℕ → Tally → List ℕ → List ℕ → Type 0
 Startable ns t bits known = (net : Network) × Starts net ns t bits known

@@ -11,7 +11,7 @@ use Rattle.model.specs.Network.{lenOf, tabulate}
 use Rattle.model.specs.Path.{ScanPath}
 use Rattle.model.specs.Mark.{firstOn, holdsBits, targetsFrom}
 use Rattle.path.specs.Layout.{nodeAt, wordWidth, wordBit, tritsOf, configOf}
-use Rattle.path.specs.Answers.{Sized}
+use Rattle.path.specs.Answers.{ConfigSized}
 use Rattle.network.specs.declared.draft.Tally.{Tally}
 use Rattle.network.specs.Draws.{Tame, targetsOf}
 use Rattle.marker.specs.declared.targets.Gots.{Gots}
@@ -45,7 +45,7 @@ segmentOf t i = getD (t .«target_segment») i 0
 -- what it asks: targets are segments of the network, no longer than a word
 pub record Judgeable (ns : List ℕ) (t : Tally) (bits known : List ℕ) : Type 0 where
   pub tame : Tame t
-  pub sized : Sized bits known
+  pub sized : ConfigSized bits known
   pub least : (i : ℕ) → i < t .«target_count» → 1 ≤ segmentOf t i
   pub most : (i : ℕ) → i < t .«target_count» → segmentOf t i ≤ t .count
   pub short : (i : ℕ) → i < t .«target_count» → lenOf (nodeAt ns (segmentOf t i)) ≤ wordWidth

@@ -17,7 +17,7 @@ use Rattle.model.specs.Text.{Trit}
 use Rattle.model.proofs.Lists.{eqb-is, take-map, drop-map, tabulate-cong}
 use Rattle.path.specs.Layout.{nodeAt, wordWidth, allKnown, tritsOf, configOf, segmentAt, scanPath, Way, byteBit}
 use Rattle.path.specs.Words.{wordOf}
-use Rattle.path.specs.Answers.{Sized, Loadable, Loads}
+use Rattle.path.specs.Answers.{ConfigSized, Loadable, Loads}
 use Rattle.path.proofs.PathLaws.{SegmentOn}
 use Rattle.path.proofs.WordLaws.{trits-loaded}
 
@@ -33,7 +33,7 @@ bitsIn scan = map some (map byteBit scan)
 
 -- i segments are loaded from p bits: the rest of the load gives every row what the whole load gives it
 pub record Loading (ns way : List ℕ) (n : ℕ) (scan bits₀ known₀ : List ℕ) (i p : ℕ) (bits known : List ℕ) : Type 0 where
-  pub sized : Sized bits known
+  pub sized : ConfigSized bits known
   pub left : p + pathLength (scanPath ns (drop i (take n way))) ≡ length scan
   pub rows : (k : ℕ) → rowAfter (scanPath ns (drop i (take n way))) (drop p (bitsIn scan)) k (row ns bits known k)
       ≡ rowAfter (scanPath ns (take n way)) (bitsIn scan) k (row ns bits₀ known₀ k)

@@ -16,7 +16,7 @@ use Rattle.model.specs.Network.{lenOf}
 use Rattle.model.specs.Path.{path, pathLength, place, on, ScanPath}
 use Rattle.model.specs.Text.{bind}
 use Rattle.path.specs.Layout.{nodeAt, wordWidth, scanPath, Way}
-use Rattle.path.specs.Answers.{Walkable, Walks, toldFrom, FallsFrom, HoldsPath, told, Holds, Found}
+use Rattle.path.specs.Answers.{Walkable, Walks, toldFrom, FallsFrom, HoldsPath, told, WalkHeld, Found}
 use Rattle.path.specs.declared.walk.Walked.{Walked}
 use Rattle.path.specs.declared.walk.Walked.the-variants.{Path, Stop as Stopped}
 use Rattle.path.proofs.WalkLaws.{way-up}
@@ -34,7 +34,7 @@ module _ (ns bits known : List ℕ) (out : ℕ) (old : List ℕ) (r : Walked) (w
       from-none (Path n) = ap (λ (m : ℕ). path (scanPath ns (take m way))) (sub-zero n)
       from-none (Stopped m) = refl
 
-      holds : (r : Walked) → FallsFrom ns way out 0 r → Holds ns way r
+      holds : (r : Walked) → FallsFrom ns way out 0 r → WalkHeld ns way r
       holds (Path n) f =
           let a = asked .room in
           let falls : Way ns (suc out) (take n way) = subst (λ (m : ℕ). Way ns (suc out) (take m way)) (sub-zero n) (f .2) in

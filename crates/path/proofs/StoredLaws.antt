@@ -13,7 +13,7 @@ use Rattle.model.proofs.Walking.{valid-by}
 use Rattle.model.proofs.WellFormed.{GoodNode}
 use Rattle.path.specs.Layout.{nodeAt, nodesOf, configOf, scanPath, byteBit}
 use Rattle.path.specs.Stored.{Stored, PathFound}
-use Rattle.path.specs.Answers.{Walkable, told, Holds, Found, Loads}
+use Rattle.path.specs.Answers.{Walkable, told, WalkHeld, Found, Loads}
 use Rattle.path.specs.declared.walk.Walked.{Walked}
 use Rattle.path.specs.declared.walk.Walked.the-variants.{Path, Stop as Stopped}
 use Rattle.path.proofs.ConfigLaws.{good-safe, found-config}
@@ -44,7 +44,7 @@ module _ (net : Network) (ns : List ℕ) (count out : ℕ) (st : Stored net ns c
     pub found-path : (n : ℕ) → r ≡ Path n → PathFound net (configOf ns bits known count) ns way n
     found-path n e =
         let w : walk net (configOf ns bits known count) ≡ path (scanPath ns (take n way)) = found-walk ∙ ap (told ns way) e in
-        record { walks = w; is = ap pathOf w; valid = valid-by net (configOf ns bits known count) (scanPath ns (take n way)) w; holds = subst (Holds ns way) e (f .holds) }
+        record { walks = w; is = ap pathOf w; valid = valid-by net (configOf ns bits known count) (scanPath ns (take n way)) w; holds = subst (WalkHeld ns way) e (f .holds) }
 
 -- ---- what follows for the path's length, a segment's place on it, and the load
 

@@ -87,14 +87,14 @@ abbrev pub told : List ℕ → List ℕ → Walked → Walk
 told ns way (Path n) = path (scanPath ns (take n way))
 told ns way (Stopped m) = stop m
 
-abbrev pub Holds : List ℕ → List ℕ → Walked → Type 0
-Holds ns way (Path n) = HoldsPath ns way n
-Holds ns way (Stopped m) = Unit {0}
+abbrev pub WalkHeld : List ℕ → List ℕ → Walked → Type 0
+WalkHeld ns way (Path n) = HoldsPath ns way n
+WalkHeld ns way (Stopped m) = Unit {0}
 
 -- the answer r, with `way` in the lent memory after
 pub record Found (ns bits known : List ℕ) (out : ℕ) (r : Walked) (way : List ℕ) : Type 0 where
   pub tells : walkFrom (nodeAt ns) (lookIn bits known) out out ≡ told ns way r
-  pub holds : Holds ns way r
+  pub holds : WalkHeld ns way r
   pub size : length way ≡ 128
 
 -- ---- places
@@ -107,7 +107,7 @@ placed Off = none
 -- ---- the load
 
 -- a word for each node number from 0 to 128
-pub record Sized (bits known : List ℕ) : Type 0 where
+pub record ConfigSized (bits known : List ℕ) : Type 0 where
   pub words : length bits ≡ 129
   pub marks : length known ≡ 129
 
@@ -115,9 +115,9 @@ pub record Sized (bits known : List ℕ) : Type 0 where
 pub record Loadable (ns way : List ℕ) (n : ℕ) (scan bits known : List ℕ) : Type 0 where
   pub holds : HoldsPath ns way n
   pub as-long : length scan ≡ pathLength (scanPath ns (take n way))
-  pub sized : Sized bits known
+  pub sized : ConfigSized bits known
 
 -- the words after the load: the configuration of any count of nodes is the one after the operation
 pub record Loads (ns way : List ℕ) (n : ℕ) (scan bits known bits′ known′ : List ℕ) : Type 0 where
   pub loads : (count : ℕ) → configOf ns bits′ known′ count ≡ csu (scanPath ns (take n way)) (map byteBit scan) (configOf ns bits known count)
-  pub sized : Sized bits′ known′
+  pub sized : ConfigSized bits′ known′

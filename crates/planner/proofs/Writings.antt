@@ -9,7 +9,7 @@ use Rattle.model.specs.Network.{Target, Network, steeringBits}
 use Rattle.model.specs.Path.{path, pathLength}
 use Rattle.model.specs.Plan.{wanted}
 use Rattle.path.specs.Layout.{scanPath}
-use Rattle.path.specs.Answers.{HoldsPath, Holds, told}
+use Rattle.path.specs.Answers.{HoldsPath, WalkHeld, told}
 use Rattle.path.specs.declared.walk.Walked.{Walked}
 use Rattle.path.specs.declared.walk.Walked.the-variants.{Path, Stop as Stopped}
 use Rattle.search.specs.Moves.{land, StepOf}
@@ -152,7 +152,7 @@ module _ {ns steering : List ℕ} {pb : Problem} {start : ℕ} {picked : List �
         writing-room {net} {cs} o =
             let q = o .counts in
             let f = s net cs o .passed in
-            let holds : HoldsPath ns way m = subst (Holds ns way) e (w net (q .prepared) .holds) in
+            let holds : HoldsPath ns way m = subst (WalkHeld ns way) e (w net (q .prepared) .holds) in
             line-room ns way m place buf holds
             (omega (
               arith,

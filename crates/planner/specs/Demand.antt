@@ -15,7 +15,7 @@ use Rattle.model.specs.PlanText.{readPlan}
 use Rattle.model.specs.Calls.{makePlan}
 use Rattle.marker.specs.declared.targets.Mark.{Mark}
 use Rattle.marker.specs.declared.targets.Verdict.the-variants.{Pass}
-use Rattle.marker.specs.Demand.{Marked}
+use Rattle.marker.specs.Demand.{MarkReturned}
 use Rattle.planner.specs.declared.writer.Planned.{Planned}
 use Rattle.planner.specs.declared.writer.Planned.the-variants.{Written, Refused}
 use Rattle.planner.specs.Writing.{answerOf}
@@ -31,7 +31,7 @@ pub record PlanWritten (n : Bytes) (net : Network) (text : Bytes) : Type 0 where
   pub plan : Plan
   pub reads : readPlan text ≡ ok plan
   -- `mark` passes it, whatever it returns by its contract
-  pub passes : (m : Mark) → Marked n text m → (lines clocks : ℕ) × (m .verdict ≡ Pass lines clocks)
+  pub passes : (m : Mark) → MarkReturned n text m → (lines clocks : ℕ) × (m .verdict ≡ Pass lines clocks)
   pub fewest : (other : Plan) → ValidPlan net other → length plan ≤ length other
   pub named : Named net plan
 

@@ -12,7 +12,7 @@ use Rattle.model.specs.Network.{Network, steeringBits}
 use Rattle.model.specs.Path.{stop}
 use Rattle.model.proofs.Lists.{eqb-is}
 use Rattle.model.proofs.Accepted.{Accepted}
-use Rattle.path.specs.Answers.{told, Holds}
+use Rattle.path.specs.Answers.{told, WalkHeld}
 use Rattle.path.specs.declared.walk.Walked.{Walked}
 use Rattle.path.specs.declared.walk.Walked.the-variants.{Path, Stop as Stopped}
 use Rattle.search.specs.Settings.{lookUp, walkAt}
@@ -63,7 +63,7 @@ module _ (ns steering : List ℕ) (pb : Problem) (old : List ℕ) (rows : RowsRi
 
     -- what `write_path` asks, and its row
     pub path-is : (net : Network) → Prepared net ns steering pb → (n : ℕ) → r ≡ Path n → PathIs net ns steering pb way n x
-    path-is net p n e = record { prepared = p; holds = subst (Holds ns way) e (w net p .holds); tells = w net p .tells ∙ ap (told ns way) e }
+    path-is net p n e = record { prepared = p; holds = subst (WalkHeld ns way) e (w net p .holds); tells = w net p .tells ∙ ap (told ns way) e }
 
     pub path-known : (n : ℕ) (new : List ℕ) → r ≡ Path n → RowRead ns steering pb way n x old new → RowsRight ns steering pb new
     path-known n new e q = rows-more new (λ net p. q .row net (path-is net p n e)) (q .outside) (q .size)

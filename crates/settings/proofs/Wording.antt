@@ -14,7 +14,7 @@ use lib.Seq.{getD-set-same, getD-set-other}
 use borrow.Author.Tests.{eq-eqb}
 use Rattle.model.proofs.Lists.{getD-tabulate, eqb-same, eqb-is, true-false}
 use Rattle.path.specs.Layout.{wordBit, lookIn}
-use Rattle.path.specs.Answers.{Sized}
+use Rattle.path.specs.Answers.{ConfigSized}
 use Rattle.path.proofs.WordLaws.{zero-bit}
 use Rattle.network.specs.Store.{BitMarked}
 use Rattle.search.specs.Settings.{Distinct, distinct-cons, tritOf, lookUp}
@@ -26,7 +26,7 @@ use Rattle.settings.proofs.Listing.{length-bits}
 
 -- ---- clearing
 
-pub cleared-none : (segments bits known : List ℕ) → Sized bits known → Cleared segments 0 bits known
+pub cleared-none : (segments bits known : List ℕ) → ConfigSized bits known → Cleared segments 0 bits known
 cleared-none segments bits known z = record { sized = z; words = λ j l. absurd (omega arith); marks = λ j l. absurd (omega arith) }
 
 pub cleared-more : (segments : List ℕ) (j : ℕ) (bits known : List ℕ) → getD segments j 0 ≤ 128 → Cleared segments j bits known
@@ -66,7 +66,7 @@ and-true : (b : Bool) → (b && true) ≡ b
 and-true true = refl
 and-true false = refl
 
-module _ (bits known : List ℕ) (s b d : ℕ) (z : Sized bits known) where
+module _ (bits known : List ℕ) (s b d : ℕ) (z : ConfigSized bits known) where
   pub digit-unknown : d ≡ 2 → DigitSet bits known s b d bits known
   digit-unknown e = record { sized = z; words = λ r c l m. rw e (or-none (wordBit (getD bits r 0) c)); marks = λ r c l m. rw e (or-none (wordBit (getD known r 0) c)) }
 
@@ -105,7 +105,7 @@ index-in (x ∷ l) d a (List·Memᴰ·tail m) = let r = index-in l d a m in (suc
 pub record Setting (pb : Problem) (x j : ℕ) (bits known : List ℕ) (y : ℕ) : Type 0 where
   pub passed : j ≤ pb .width
   pub rest : y ≡ x / 3 ^ j
-  pub sized : Sized bits known
+  pub sized : ConfigSized bits known
   pub done : (i : ℕ) → i < j → lookIn bits known (getD (pb .segments) i 0) (getD (pb .places) i 0) ≡ tritOf (x / 3 ^ i % 3)
   pub words : (i : ℕ) → j ≤ i → i < pb .width → wordBit (getD bits (getD (pb .segments) i 0) 0) (getD (pb .places) i 0) ≡ false
   pub marks : (i : ℕ) → j ≤ i → i < pb .width → wordBit (getD known (getD (pb .segments) i 0) 0) (getD (pb .places) i 0) ≡ false

@@ -8,7 +8,7 @@ use Rattle.model.specs.Network.{Network, steers, steeringBits}
 use Rattle.model.specs.Path.{ScanPath, bitValue, on}
 use Rattle.model.proofs.Accepted.{Accepted}
 use Rattle.path.specs.Layout.{scanPath, wordWidth, wordBit}
-use Rattle.path.specs.Answers.{told, Holds}
+use Rattle.path.specs.Answers.{told, WalkHeld}
 use Rattle.path.specs.declared.walk.Walked.{Walked}
 use Rattle.path.specs.Stored.{Stored}
 use Rattle.network.specs.declared.draft.Tally.{Tally}
@@ -97,4 +97,4 @@ Each ns steering p P = (net : Network) → Prepared net ns steering p → P net
 -- the walk in setting x
 pub record WalkIs (net : Network) (ns : List ℕ) (x : ℕ) (r : Walked) (way : List ℕ) : Type 0 where
   pub tells : walkAt net x ≡ told ns way r
-  pub holds : Holds ns way r
+  pub holds : WalkHeld ns way r

@@ -8,7 +8,7 @@ use lib.Dec.{eqb, ltb}
 use lib.ListN.{length, getD}
 use Rattle.model.specs.Network.{tabulate, steers, steeringBits}
 use Rattle.path.specs.Layout.{nodesOf, wordWidth, wordBit, lookIn}
-use Rattle.path.specs.Answers.{Sized}
+use Rattle.path.specs.Answers.{ConfigSized}
 use Rattle.network.specs.declared.draft.Tally.{Tally}
 use Rattle.network.specs.Draws.{Short}
 use Rattle.search.specs.Settings.{Distinct, lookUp}
@@ -70,17 +70,17 @@ pub record Listed (p : Problem) : Type 0 where
   pub distinct : Distinct (steeringOf p)
 
 pub record Cleared (segments : List ℕ) (k : ℕ) (bits known : List ℕ) : Type 0 where
-  pub sized : Sized bits known
+  pub sized : ConfigSized bits known
   pub words : (j : ℕ) → j < k → getD bits (getD segments j 0) 0 ≡ 0
   pub marks : (j : ℕ) → j < k → getD known (getD segments j 0) 0 ≡ 0
 
 -- bit b of segment s has the digit d besides
 pub record DigitSet (bits known : List ℕ) (s b d : ℕ) (bits′ known′ : List ℕ) : Type 0 where
-  pub sized : Sized bits′ known′
+  pub sized : ConfigSized bits′ known′
   pub words : (r c : ℕ) → r ≤ 128 → c < wordWidth → wordBit (getD bits′ r 0) c ≡ (wordBit (getD bits r 0) c || (eqb d 1 && (eqb s r && eqb b c)))
   pub marks : (r c : ℕ) → r ≤ 128 → c < wordWidth → wordBit (getD known′ r 0) c ≡ (wordBit (getD known r 0) c || (ltb d 2 && (eqb s r && eqb b c)))
 
 -- the words hold setting x of these steering bits
 pub record SetTo (sb : List (ℕ × ℕ)) (x : ℕ) (bits known : List ℕ) : Type 0 where
-  pub sized : Sized bits known
+  pub sized : ConfigSized bits known
   pub holds : (s b : ℕ) → List·Memᴰ (s, b) sb → lookIn bits known s b ≡ lookUp sb x s b

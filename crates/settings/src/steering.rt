@@ -11,7 +11,7 @@ ghost use Prim.Native.Nat.{_+_, _<_, _≤_};
 ghost use lib.ListN.{length};
 ghost use Rattle.model.specs.Network.{steeringBits};
 ghost use Rattle.path.specs.Layout.{nodesOf, wordWidth, tritAt, lookIn};
-ghost use Rattle.path.specs.Answers.{Sized};
+ghost use Rattle.path.specs.Answers.{ConfigSized};
 ghost use Rattle.search.specs.Settings.{digitOf, settingOf};
 ghost use Rattle.settings.specs.Steering.{bitsOf, steeringOf, markedIn, Steered, ProblemOf, Pairs, Behind, Within, Listed, Cleared, DigitSet, SetTo};
 
@@ -87,7 +87,7 @@ pub fn problem_of<'a>(nodes: &'a Nodes, steering: &'a Words, tally: Tally) -> Pr
 
 // The words of the steering segments become 0.
 fn clear_words(bits: &mut Words, known: &mut Words, segments: &[usize; 6], k: usize)
-    requires { ⌜ (k ≤ 6) × Sized (now bits) (now known) ⌝ }
+    requires { ⌜ (k ≤ 6) × ConfigSized (now bits) (now known) ⌝ }
     requires { ⌜ Within (now segments) k ⌝ }
     ensures { λ _. ⌜ Cleared (now (segments .entry)) k (now (bits .exit)) (now (known .exit)) ⌝ }
 {
@@ -102,7 +102,7 @@ fn clear_words(bits: &mut Words, known: &mut Words, segments: &[usize; 6], k: us
 
 // Bit b of segment s gets the value of a digit: 0, 1, or 2 for unknown. Before, it is 0 in both words.
 fn set_digit(bits: &mut Words, known: &mut Words, s: usize, b: usize, d: usize)
-    requires { ⌜ (d < 3) × Sized (now bits) (now known) ⌝ }
+    requires { ⌜ (d < 3) × ConfigSized (now bits) (now known) ⌝ }
     ensures { λ _. ⌜ DigitSet (now (bits .entry)) (now (known .entry)) s b d (now (bits .exit)) (now (known .exit)) ⌝ }
 {
     if d == 2 {
@@ -117,7 +117,7 @@ fn set_digit(bits: &mut Words, known: &mut Words, s: usize, b: usize, d: usize)
 
 // The words in which the steering bits have the values of setting x; other bits are free.
 pub fn set_words(bits: &mut Words, known: &mut Words, problem: Problem, x: usize)
-    requires { ⌜ Listed problem × Sized (now bits) (now known) ⌝ }
+    requires { ⌜ Listed problem × ConfigSized (now bits) (now known) ⌝ }
     ensures { λ _. ⌜ SetTo (steeringOf problem) x (now (bits .exit)) (now (known .exit)) ⌝ }
 {
     clear_words(bits, known, &problem.segments, problem.width);

@@ -2,7 +2,7 @@
 -- for want of an `out` line or for its start, and otherwise the record is of the model's network.
 -- Assumes nothing.
 use Rattle.network.proofs.Drawing.{drawn-words}
-use Rattle.path.specs.Answers.{Holds}
+use Rattle.path.specs.Answers.{WalkHeld}
 use Prim.Native.Nat.{ℕ}
 use Rattle.network.proofs.ReadingNetwork.{draws-none, reading-refused, too-long, lines-rejected, Read, lines-read, no-out-line, start-walkable, start-stops, reading-accepted}
 use lib.ListN.{length-replicate}
@@ -101,7 +101,7 @@ path-length-requires : tie.Need-path-length-requires
 path-length-requires c κs =
     let at-n = c .before .before .before .before .before .before in
     let at-find-path = at-n .before .before in
-    subst (Holds _ _) (at-n .n .given .1) (at-find-path .find-path .ensures .holds)
+    subst (WalkHeld _ _) (at-n .n .given .1) (at-find-path .find-path .ensures .holds)
 
 returns-4 : tie.Need-returns-4
 returns-4 c =
