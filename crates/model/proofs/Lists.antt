@@ -1,4 +1,4 @@
--- Laws of lists, options, tests and results that the model's own definitions ask for.
+-- Plain laws of tests, options, results and lists, for all crates.
 -- Assumes nothing.
 use mathlib.Core.Path.{_≡_, refl, sym, ap, _∙_, subst}
 use mathlib.Core.Bool.{Bool, true, false, _&&_, _||_}
@@ -44,6 +44,18 @@ or-left false b e = cc
 pub or-right : (a b : Bool) → b ≡ true → (a || b) ≡ true
 or-right true b e = refl
 or-right false b e = e
+
+pub or-false-right : (a : Bool) → (a || false) ≡ a
+or-false-right true = refl
+or-false-right false = refl
+
+pub or-assoc : (a b c : Bool) → (a || (b || c)) ≡ ((a || b) || c)
+or-assoc true b c = refl
+or-assoc false b c = refl
+
+pub and-false-right : (a : Bool) → (a && false) ≡ false
+and-false-right true = refl
+and-false-right false = refl
 
 pub and-both : (a b : Bool) → a ≡ true → b ≡ true → (a && b) ≡ true
 and-both true b e f = f
@@ -150,6 +162,10 @@ tabulate-cong f g i (suc n) e =
     let b : tabulate f (suc i) n ≡ tabulate g (suc i) n = tabulate-cong f g (suc i) n
     (λ x l. ap f (suc-add i x ∙ sym (add-suc i x)) ∙ e (suc x) (omega arith) ∙ ap g (add-suc i x ∙ sym (suc-add i x))) in
     rw (a, b)
+
+pub mapFrom-tabulate : {A B : Type 0} (g : ℕ → A → B) (f : ℕ → A) (i n : ℕ) → mapFrom i g (tabulate f i n) ≡ tabulate (λ k. g k (f k)) i n
+mapFrom-tabulate g f i zero = refl
+mapFrom-tabulate g f i (suc n) = ap (λ l. g i (f i) ∷ l) (mapFrom-tabulate g f (suc i) n)
 
 pub tabulate-of : {A : Type 0} (f : ℕ → A) (i : ℕ) (w : List A) (d : A) → ((b : ℕ) → f (i + b) ≡ getD w b d) → tabulate f i (length w) ≡ w
 tabulate-of f i [] d e = refl

@@ -4,17 +4,17 @@ use mathlib.Core.Path.{_≡_, refl, sym, ap, subst, _∙_}
 use mathlib.Core.Bool.{Bool, true, false, cond, _||_}
 use mathlib.Core.Option.{some}
 use mathlib.Core.List.{List, [], _∷_, map}
-use Prim.Native.Nat.{ℕ, zero, suc, _+_, _-_, _<_, _≤_}
+use Prim.Native.Nat.{ℕ, _+_, _-_, _<_, _≤_}
 use native.Mathlib.Nat.{zero-add}
 use native.Mathlib.Omega.{arith}
 use borrow.Author.Tests.{ne-eqb, eqb-false}
 use lib.Dec.{eqb}
 use lib.ListN.{length, getD, take, drop, set, length-set, length-drop}
 use lib.Seq.{drop-drop, getD-set-same, getD-set-other, length-take-le}
-use Rattle.model.specs.Network.{lenOf, mapFrom, tabulate}
+use Rattle.model.specs.Network.{lenOf}
 use Rattle.model.specs.Path.{ScanPath, on, share, loads, csu, pathLength}
 use Rattle.model.specs.Text.{Trit}
-use Rattle.model.proofs.Lists.{eqb-is, take-map, drop-map, tabulate-cong}
+use Rattle.model.proofs.Lists.{eqb-is, take-map, drop-map, tabulate-cong, mapFrom-tabulate}
 use Rattle.path.specs.Layout.{nodeAt, wordWidth, allKnown, tritsOf, configOf, segmentAt, scanPath, Way, byteBit}
 use Rattle.path.specs.Words.{wordOf}
 use Rattle.path.specs.Answers.{ConfigSized, Loadable, Loads}
@@ -118,10 +118,6 @@ module _ (ns way : List ℕ) (n : ℕ) (scan bits₀ known₀ : List ℕ) (i p :
         }
 
 -- ---- all segments
-
-mapFrom-tabulate : {A B : Type 0} (g : ℕ → A → B) (f : ℕ → A) (i n : ℕ) → mapFrom i g (tabulate f i n) ≡ tabulate (λ k. g k (f k)) i n
-mapFrom-tabulate g f i zero = refl
-mapFrom-tabulate g f i (suc n) = ap (λ l. g i (f i) ∷ l) (mapFrom-tabulate g f (suc i) n)
 
 pub loading-all : (ns way : List ℕ) (n : ℕ) (scan bits₀ known₀ : List ℕ) (i p : ℕ) (bits known : List ℕ) → drop i (take n way) ≡ []
     → Loading ns way n scan bits₀ known₀ i p bits known → Loads ns way n scan bits₀ known₀ bits known

@@ -10,7 +10,7 @@ use native.Mathlib.Omega.{arith}
 use native.Mathlib.Decide.{decLt}
 use Rattle.model.specs.NetworkText.{isSome}
 use Rattle.model.specs.Planner.{orNext, startingWith}
-use Rattle.model.proofs.Lists.{true-false, or-right, some-same}
+use Rattle.model.proofs.Lists.{true-false, or-right, or-false-right, or-assoc, some-same}
 use Rattle.search.specs.Search.{Sys, firstFrom, ifGoal, planIn, planUpTo, FirstAt}
 use Rattle.search.specs.Layers.{can, someOf, Leads, Earlier, Stepped, Layers}
 use Rattle.search.proofs.Least.{some-none, planIn-step, planIn-none, planIn-first, from-none, from-some}
@@ -39,18 +39,10 @@ someOf-same f g i (suc n) h = rw (h i (omega arith) (omega arith), someOf-same f
 -- one number more, at the end
 pub someOf-snoc : (f : ℕ → Bool) (i n : ℕ) → someOf f i (suc n) ≡ (someOf f i n || f (i + n))
 unfolding someOf
-someOf-snoc f i zero = let z : i + 0 ≡ i = omega arith in rw z (alone (f i))
-  where
-    alone : (a : Bool) → (a || false) ≡ a
-    alone true = refl
-    alone false = refl
+someOf-snoc f i zero = let z : i + 0 ≡ i = omega arith in rw z (or-false-right (f i))
 someOf-snoc f i (suc n) =
     let z : suc i + n ≡ i + suc n = omega arith in
-    rw (someOf-snoc f (suc i) n, z) (grouped (f i) (someOf f (suc i) n) (f (i + suc n)))
-  where
-    grouped : (a b c : Bool) → (a || (b || c)) ≡ ((a || b) || c)
-    grouped true b c = refl
-    grouped false b c = refl
+    rw (someOf-snoc f (suc i) n, z) (or-assoc (f i) (someOf f (suc i) n) (f (i + suc n)))
 
 -- ---- whether a plan of n choices exists
 

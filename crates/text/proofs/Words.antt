@@ -10,6 +10,7 @@ use lib.ListN.{length, drop, getD, drop-of-length-le}
 use lib.Seq.{drop-cons}
 use lib.Dec.{eqb}
 use Rattle.model.specs.Text.{Bytes, bytes, Word, Seg, Mux, Out, Hold, Write, Read, Csu, same, wordOf}
+use Rattle.model.proofs.Lists.{and-false-right}
 
 -- ---- two byte strings from place i on, where r says whether they are the same
 
@@ -22,16 +23,12 @@ module _ (a b : Bytes) (i : ℕ) (r : Bool) (whole : same (drop i a) (drop i b) 
   unfolding same
   same-next t h k e = sym (rw (add-one, drop-cons a i 0 h, drop-cons b i 0 k, same, e)) ∙ whole
 
-and-false : (t : Bool) → (t && false) ≡ false
-and-false true = refl
-and-false false = refl
-
 pub same-length : (a b : Bytes) → (length a ≡ length b → ⊥) → same a b ≡ false
 unfolding same
 same-length [] [] h = absurd (h refl)
 same-length [] (y ∷ b) h = refl
 same-length (x ∷ a) [] h = refl
-same-length (x ∷ a) (y ∷ b) h = rw (same-length a b (λ e. h (ap suc e)), and-false (eqb x y))
+same-length (x ∷ a) (y ∷ b) h = rw (same-length a b (λ e. h (ap suc e)), and-false-right (eqb x y))
 
 -- ---- the seven words, looked for in turn
 

@@ -1,7 +1,7 @@
 -- `marker::operations::run_lines` meets its contract. The invariant is the law `Going`; the measure is what is left of the text.
 -- Assumes nothing.
 use mathlib.Core.Path.{_≡_}
-use Prim.Native.Nat.{_-_}
+use Prim.Native.Nat.{suc, _+_, _-_, _≤_}
 use native.Mathlib.Omega.{arith}
 use lib.ListN.{length, take}
 use Rattle.model.specs.Result.{ok}
@@ -24,6 +24,15 @@ Inv-loop nodes t plan way₀ count bits₀ known₀ first₀ places₀ n₀ at�
 
 abbrev μ-loop : tie.MeasureT-loop
 μ-loop nodes t plan way₀ count bits₀ known₀ first₀ places₀ n₀ at₀ k₀ way bits known first places n at k = length plan - at
+
+-- the line lies in the text, and the lines before it have a byte each
+fits : (c : tie.After-bits-at Inv-loop μ-loop)
+    → let l = c .before .before .loop in (l .at + (5 + length (c .bits-at .result .now)) ≤ length (c .before .before .before .before .args .plan .now)) × (l .k ≤ suc (l .at))
+fits c =
+    let l = c .before .before in
+    let s = l .before .before in
+    let g = l .loop .inv .1 (s .pre .1 .0 .0) (s .pre .0 .0) (s .pre .0 .1) (s .pre .1 .0 .1) in
+    (going-further _ _ _ _ _ _ _ _ _ _ _ _ _ _ g (c .before .loop-test .taken) _ (c .bits-at .ensures), g .few)
 
 loop-holds : tie.Need-loop-holds Inv-loop μ-loop
 loop-holds c = (c .before .pre .1 .1 .0, λ net whole e o. going-start _ _ _ _ _ _ _ _ _ _ _ e o (c .before .pre .1 .1 .1))
@@ -65,31 +74,13 @@ add-at : tie.Need-add-at Inv-loop μ-loop
 add-at c = search needs
 
 add-at-2 : tie.Need-add-at-2 Inv-loop μ-loop
-add-at-2 c =
-    let o = c .before .before .before in
-    let l = o .before .before .before .before .before .before .before .before in
-    let s = l .before .before in
-    let g = l .loop .inv .1 (s .pre .1 .0 .0) (s .pre .0 .0) (s .pre .0 .1) (s .pre .1 .0 .1) in
-    let f = going-further _ _ _ _ _ _ _ _ _ _ _ _ _ _ g (o .before .before .before .before .before .before .before .loop-test .taken) _ (o .before .before .before .before .before .before .bits-at .ensures) in
-    omega (arith, f)
+add-at-2 c = omega (arith, fits (c .before .before .before .before .before .before .before .before .before) .0)
 
 add-k : tie.Need-add-k Inv-loop μ-loop
-add-k c =
-    let o = c .before .before .before in
-    let l = o .before .before .before .before .before .before .before .before in
-    let s = l .before .before in
-    let g = l .loop .inv .1 (s .pre .1 .0 .0) (s .pre .0 .0) (s .pre .0 .1) (s .pre .1 .0 .1) in
-    let f = going-further _ _ _ _ _ _ _ _ _ _ _ _ _ _ g (o .before .before .before .before .before .before .before .loop-test .taken) _ (o .before .before .before .before .before .before .bits-at .ensures) in
-    omega (arith, f, g .few)
+add-k c = let f = fits (c .before .before .before .before .before .before .before .before .before) in omega (arith, f .0, f .1)
 
 loop-less : tie.Need-loop-less Inv-loop μ-loop
-loop-less c =
-    let o = c .before .before .before in
-    let l = o .before .before .before .before .before .before .before .before in
-    let s = l .before .before in
-    let g = l .loop .inv .1 (s .pre .1 .0 .0) (s .pre .0 .0) (s .pre .0 .1) (s .pre .1 .0 .1) in
-    let f = going-further _ _ _ _ _ _ _ _ _ _ _ _ _ _ g (o .before .before .before .before .before .before .before .loop-test .taken) _ (o .before .before .before .before .before .before .bits-at .ensures) in
-    omega (arith, f)
+loop-less c = omega (arith, fits (c .before .before .before .before .before .before .before .before .before) .0)
 
 loop-again : tie.Need-loop-again Inv-loop μ-loop
 loop-again c =
