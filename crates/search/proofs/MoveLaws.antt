@@ -17,7 +17,8 @@ use Rattle.model.proofs.PathBound.{falls-bound}
 use Rattle.model.proofs.FillingList.{fill-out}
 use Rattle.model.proofs.Walking.{Falls, walk-falls}
 use Rattle.model.proofs.WellFormed.{WellFormed}
-use Rattle.search.specs.Moves.{maskOf, onPath, allOf, choicesOn, targetsOn, count, gain, land, landNum}
+use Rattle.search.specs.Moves.{maskOf, onPath, allOf, choicesOn, targetsOn, count, gain, land}
+use Rattle.search.proofs.Landing.{landNum}
 use Rattle.search.specs.Settings.{Look, settingOf, lookUp, walkAt, order, baseOf, choiceOf, loaded, settingAfter, numberOf}
 use Rattle.search.specs.Choices.{placesOf, bitsFrom}
 use Rattle.search.proofs.Steering.{getD-in, distinct-bits, steering-bit, bit-listed}

@@ -1,21 +1,20 @@
 -- Laws of the list of the settings that the choices lead to: it is doubled for each steering bit on the path, the last place first.
 -- Assumes nothing.
 use mathlib.Core.Path.{_≡_, refl, sym, ap, _∙_}
-use mathlib.Core.List.{List, [], _∷_}
+use mathlib.Core.List.{List}
 use Prim.Native.Nat.{ℕ, suc, _+_, _*_, _-_, _^_, _≤_, _<_}
-use native.Mathlib.Nat.{two-pow-succ, pow-le-pow-right, not-suc-le-zero}
+use native.Mathlib.Nat.{two-pow-succ}
 use native.Mathlib.Numerals.{add-one}
 use native.Mathlib.Omega.{arith}
 use native.Mathlib.Decide.{decLt}
 use lib.ListN.{length, getD, set, length-set}
 use lib.Seq.{getD-set-same, getD-set-other}
-use borrow.Author.Tests.{lt-ltb, le-ltb}
 use Rattle.model.specs.Network.{Network, steeringBits}
 use Rattle.model.specs.Path.{ScanPath, Walk, path, stop}
 use Rattle.search.specs.Settings.{lookUp, walkAt, order, baseOf}
-use Rattle.search.specs.Moves.{count, land, landNum}
+use Rattle.search.specs.Moves.{count, land}
 use Rattle.search.proofs.Order.{order-within}
-use Rattle.search.proofs.Landing.{land-add}
+use Rattle.search.proofs.Landing.{power-up, land-high, land-zero}
 use Rattle.search.proofs.MoveLaws.{count-path, count-stop, path-falls, few-choices, land-num, count-within, land-within, settings-within}
 use Rattle.settings.specs.Rows.{rowNumber, Doubled, Lands, Landing, LandsIn}
 
@@ -48,35 +47,6 @@ module _ (old : List ℕ) (h w c : ℕ) (new : List ℕ) (d : Doubling old h w c
 
   pub doubling-all : h ≤ c → Doubled old h w new
   doubling-all l = record { low = d .low; high = λ i g. d .high i (omega arith); size = d .size }
-
--- ---- a choice with one binary digit more, at place i counted from the last one, leads further by that place's power of 3
-
-power-up : (i j : ℕ) → i ≤ j → 2 ^ i ≤ 2 ^ j
-power-up i j l = pow-le-pow-right {n = 2} (omega arith) {i = i} {j = j} l
-
-land-high : (js : List ℕ) (i c n : ℕ) → i < length js → c < 2 ^ i → landNum js (2 ^ i + c) n ≡ landNum js c n + 3 ^ getD js (length js - suc i) 0
-unfolding landNum
-land-high [] i c n l lt = absurd (not-suc-le-zero l)
-land-high (j ∷ js) i c n l lt = by (decLt i (length js)) (λ g. land-high js i c n g lt)
-  where
-    by : Dec (i < length js) → (i < length js → landNum js (2 ^ i + c) n ≡ landNum js c n + 3 ^ getD js (length js - suc i) 0)
-        → landNum (j ∷ js) (2 ^ i + c) n ≡ landNum (j ∷ js) c n + 3 ^ getD (j ∷ js) (suc (length js) - suc i) 0
-    by (yes g) rest =
-        let up : 2 ^ suc i ≤ 2 ^ length js = power-up (suc i) (length js) g in
-        let two : 2 ^ suc i ≡ 2 ^ i + 2 ^ i = two-pow-succ i in
-        let z : suc (length js) - suc i ≡ suc (length js - suc i) = omega arith in
-        rw (z, lt-ltb (2 ^ i + c) (2 ^ length js) (omega arith), lt-ltb c (2 ^ length js) (omega arith)) (rest g)
-    by (no g) rest =
-        let e : i ≡ length js = omega arith in
-        let q : 2 ^ i ≡ 2 ^ length js = ap (λ (k : ℕ). 2 ^ k) e in
-        let z : suc (length js) - suc i ≡ 0 = omega arith in
-        let d : 2 ^ i + c - 2 ^ length js ≡ c = omega arith in
-        rw (z, le-ltb (2 ^ i + c) (2 ^ length js) (omega arith), lt-ltb c (2 ^ length js) (omega arith), d) (land-add js c n (3 ^ j))
-
-land-zero : (js : List ℕ) (n : ℕ) → landNum js 0 n ≡ n
-unfolding landNum
-land-zero [] n = refl
-land-zero (j ∷ js) n = rw (lt-ltb 0 (2 ^ length js) (omega (arith, power-up 0 (length js) (omega arith)))) (land-zero js n)
 
 -- ---- row x of a network
 
