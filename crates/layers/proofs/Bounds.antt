@@ -22,10 +22,3 @@ module _ (net : Network) (ns steering : List ℕ) (pb : Problem) (p : Prepared n
 
   pub few-settings : 3 ^ length (steeringBits (net .nodes)) ≤ 729
   few-settings = settings-within (length (steeringBits (net .nodes))) (omega (arith, bits-count, p .few))
-
-  pub lands-small : (x c : ℕ) → land net x c < 729
-  lands-small x c = omega (arith, land-within net x c, few-settings)
-
-  -- a row that is written
-  pub row-lands : (rows : List ℕ) (x : ℕ) → RowsRight ns steering pb rows → x < 729 → rowNumber rows x 0 ≡ 1 → Lands net rows x
-  row-lands rows x right lt known = record { accepted = p .accepted; few = omega (arith, bits-count, p .few); row = right .right net p x lt known }

@@ -22,12 +22,12 @@ use Rattle.search.specs.Layers.{can}
 use Rattle.search.proofs.Forward.{Traced, trace-step, least-plan, useful-next}
 use Rattle.settings.specs.declared.steering.Problem.{Problem}
 use Rattle.settings.specs.Route.{Prepared}
-use Rattle.settings.specs.Rows.{rowNumber, RowsRight, LandsIn, LandsOf}
+use Rattle.settings.specs.Rows.{rowNumber, RowsRight, Lands, LandsIn, LandsOf}
 use Rattle.layers.specs.Table.{layersOf}
 use Rattle.layers.specs.Keeping.{Kept}
 use Rattle.layers.specs.Plans.{PlanTraced}
 use Rattle.layers.proofs.SetTests.{into-slot}
-use Rattle.layers.proofs.RowLaws.{land-small, gain-small, gain-read, lands-are}
+use Rattle.layers.proofs.RowLaws.{land-small, gain-small, gain-read, lands-of}
 use Rattle.layers.proofs.SlotLaws.{layer-slot}
 
 -- the way has come to setting x with the targets m, and i choices are written
@@ -81,14 +81,17 @@ module _ (net : Network) (start d : ℕ) (tab : List ℕ) (K : Kept net start d 
       {rows : List ℕ} (right : RowsRight ns steering pb rows) (less-x : x < 729) (known : rowNumber rows x 0 ≡ 1)
       {n : ℕ} {lands : List ℕ} (l : LandsIn rows x n lands) (g : ℕ) (g-is : g ≡ rowNumber rows x 2) (small : m < 16) (lt : i < d)
       (r : ℕ) (f : FirstAt (λ c. wordBit (getD tab (i * 729 + getD lands c 0) 0) (bitOr m g) ≡ true) n r) where
+    row : Lands net rows x
+    row = lands-of q right x less-x known
+
     of : LandsOf net x n lands
-    of = lands-are q right x less-x known l
+    of = l .of net row
 
     abbrev got : ℕ
     got = bitOr m g
 
     got-is : got ≡ reached net x m
-    got-is = ap (bitOr m) (gain-read q right x less-x known g g-is)
+    got-is = ap (bitOr m) (gain-read row g g-is)
 
     choices-are : M .choices s ≡ n
     choices-are = let e : s / 16 ≡ x = omega arith in ap (count net) e ∙ sym (of .count-is)
@@ -109,7 +112,7 @@ module _ (net : Network) (start d : ℕ) (tab : List ℕ) (K : Kept net start d 
     kept-is : (c : ℕ) → c < n → wordBit (getD tab (i * 729 + getD lands c 0) 0) got ≡ can M (d - suc i) (M .to s c)
     kept-is c less =
         let a : wordBit (getD tab (i * 729 + getD lands c 0) 0) got ≡ wordBit (getD tab (i * 729 + land net x c) 0) (reached net x m) = rw (of .lands-are c less, got-is) in
-        a ∙ sym (into-slot net tab i x m c small (land-small q x c) (or-lt 4 m (gain net x) small (gain-small q x)))
+        a ∙ sym (into-slot net tab i x m c small (land-small row c) (or-lt 4 m (gain net x) small (gain-small row)))
         ∙ sym (layer-slot start tab i (suc i) (M .to s c) refl)
         ∙ K .useful .kept (suc i) (M .to s c) (omega arith) lt
         ∙ next c less

@@ -19,7 +19,7 @@ ghost use Prim.Native.Nat.{ℕ, _+_, _*_, _≤_, _<_};
 ghost use lib.ListN.{length, getD};
 ghost use Rattle.search.specs.Moves.{allOf, sysOf};
 ghost use Rattle.settings.specs.Route.{Plannable, Each};
-ghost use Rattle.settings.specs.Rows.{RowsRight};
+ghost use Rattle.settings.specs.Rows.{RowsRight, Landing, OfRow};
 ghost use Rattle.layers.specs.Table.{SlotKnown};
 ghost use Rattle.layers.specs.Spreading.{Met};
 ghost use Rattle.layers.specs.Keeping.{Filtered, FilteredSets, enters, UnionOf, Useful};
@@ -92,23 +92,11 @@ fn union_of(table: &[u16], i: usize, lands: &Lands, n: usize) -> u16
 }
 
 // Of these sets, those with which an operation in setting x leads into slot i.
-fn useful_sets<'a>(
-    nodes: &'a Nodes,
-    steering: &'a Words,
-    problem: Problem,
-    rows: &mut Rows,
-    x: usize,
-    sets: u16,
-    table: &[u16],
-    i: usize,
-) -> u16
-    requires { ⌜ Plannable (now nodes) (now steering) problem ⌝ }
-    requires { ⌜ RowsRight (now nodes) (now steering) problem (now rows) ⌝ }
+fn useful_sets(rows: &Rows, x: usize, sets: u16, table: &[u16], i: usize) -> u16
     requires { ⌜ (11664 ≤ length (now table)) × (x < 729) × (i < 16) ⌝ }
-    ensures { λ _. ⌜ RowsRight (now (nodes .entry)) (now (steering .entry)) problem (now (rows .exit)) ⌝ }
-    ensures { λ r. ⌜ Each (now (nodes .entry)) (now (steering .entry)) problem (λ net. FilteredSets (enters net (now (table .entry)) i) x sets r) ⌝ }
+    requires { ⌜ Landing (now rows) x ⌝ }
+    ensures { λ r. ⌜ OfRow (now (rows .entry)) x (λ net. FilteredSets (enters net (now (table .entry)) i) x sets r) ⌝ }
 {
-    know_row(nodes, steering, problem, x, rows);
     let mut lands: Lands = [0; 64];
     let n = list_lands(rows, x, &mut lands);
     let all = union_of(table, i, &lands, n);
@@ -135,7 +123,8 @@ fn keep_useful<'a>(
     while x < end {
         let sets = table[i * 729 + x];
         if sets != 0 {
-            table[i * 729 + x] = useful_sets(nodes, steering, problem, rows, x, sets, table, i + 1);
+            know_row(nodes, steering, problem, x, rows);
+            table[i * 729 + x] = useful_sets(rows, x, sets, table, i + 1);
         }
         x += 1;
     }

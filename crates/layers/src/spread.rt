@@ -17,7 +17,7 @@ ghost use mathlib.Core.Path.{_≡_};
 ghost use Prim.Native.Nat.{ℕ, _*_, _≤_, _<_};
 ghost use lib.ListN.{length, getD};
 ghost use Rattle.settings.specs.Route.{Plannable, Each};
-ghost use Rattle.settings.specs.Rows.{RowsRight};
+ghost use Rattle.settings.specs.Rows.{RowsRight, Landing, OfRow};
 ghost use Rattle.layers.specs.Table.{OnlySlot, Known};
 ghost use Rattle.layers.specs.Spreading.{Spread, AtSetting, Arrives, Leaves, Next, SetsIn, Met};
 ghost use Rattle.layers.specs.Plans.{Starts};
@@ -53,26 +53,20 @@ fn spread_choices(table: &mut [u16], seen: &mut Seen, lands: &Lands, n: usize, g
     }
 }
 
-// From the states of setting x with these sets to slot i. The result has the sets of the states led to.
-fn spread_setting<'a>(
-    nodes: &'a Nodes,
-    steering: &'a Words,
-    problem: Problem,
-    rows: &mut Rows,
+// From the states of setting x with these sets to slot i, by row x. The result has the sets of the states led to.
+fn spread_setting(
+    rows: &Rows,
     x: usize,
     sets: u16,
     table: &mut [u16],
     seen: &mut Seen,
     i: usize,
 ) -> u16
-    requires { ⌜ Plannable (now nodes) (now steering) problem ⌝ }
-    requires { ⌜ RowsRight (now nodes) (now steering) problem (now rows) ⌝ }
     requires { ⌜ (11664 ≤ length (now table)) × (length (now seen) ≡ 729) × (x < 729) × (i < 16) ⌝ }
-    ensures { λ _. ⌜ RowsRight (now (nodes .entry)) (now (steering .entry)) problem (now (rows .exit)) ⌝ }
-    ensures { λ _. ⌜ Each (now (nodes .entry)) (now (steering .entry)) problem (λ net. Spread (Leaves net x sets) i (now (table .entry)) (now (seen .entry)) (now (table .exit)) (now (seen .exit))) ⌝ }
-    ensures { λ r. ⌜ Each (now (nodes .entry)) (now (steering .entry)) problem (λ net. SetsIn (Leaves net x sets) r) ⌝ }
+    requires { ⌜ Landing (now rows) x ⌝ }
+    ensures { λ _. ⌜ OfRow (now (rows .entry)) x (λ net. Spread (Leaves net x sets) i (now (table .entry)) (now (seen .entry)) (now (table .exit)) (now (seen .exit))) ⌝ }
+    ensures { λ r. ⌜ OfRow (now (rows .entry)) x (λ net. SetsIn (Leaves net x sets) r) ⌝ }
 {
-    know_row(nodes, steering, problem, x, rows);
     let mut lands: Lands = [0; 64];
     let n = list_lands(rows, x, &mut lands);
     let got = joined(sets, number(rows, x, GAIN));
@@ -101,7 +95,8 @@ fn spread_layer<'a>(
     ensures { λ r. ⌜ Each (now (nodes .entry)) (now (steering .entry)) problem (λ net. Known net (start * 16) (now (table .entry)) i → SetsIn (Next net (start * 16) (now (table .entry)) i) r) ⌝ }
 {
     if i == 0 {
-        return spread_setting(nodes, steering, problem, rows, start, 1, table, seen, i);
+        know_row(nodes, steering, problem, start, rows);
+        return spread_setting(rows, start, 1, table, seen, i);
     }
     let end = setting_count(problem.width);
     let mut all: u16 = 0;
@@ -109,7 +104,8 @@ fn spread_layer<'a>(
     while x < end {
         let sets = table[(i - 1) * 729 + x];
         if sets != 0 {
-            let got = spread_setting(nodes, steering, problem, rows, x, sets, table, seen, i);
+            know_row(nodes, steering, problem, x, rows);
+            let got = spread_setting(rows, x, sets, table, seen, i);
             all = all | got;
         }
         x += 1;

@@ -101,6 +101,10 @@ pub record Lands (net : Network) (rows : List ℕ) (x : ℕ) : Type 0 where
 abbrev pub Landing : List ℕ → ℕ → Type 0
 Landing rows x = (net : Network) × Lands net rows x
 
+-- for each such network
+abbrev pub OfRow : List ℕ → ℕ → (Network → Type 0) → Type 0
+OfRow rows x P = (net : Network) → Lands net rows x → P net
+
 pub record LandsOf (net : Network) (x r : ℕ) (lands : List ℕ) : Type 0 where
   pub count-is : r ≡ count net x
   pub lands-are : (c : ℕ) → c < r → getD lands c 0 ≡ land net x c

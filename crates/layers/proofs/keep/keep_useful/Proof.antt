@@ -1,6 +1,6 @@
 -- `layers::keep::keep_useful` meets its contract. The invariant: slot i is filtered up to setting x.
 -- Assumes nothing.
-use Prim.Native.Nat.{_+_, _≤_, _-_}
+use Prim.Native.Nat.{_+_, _≤_, _<_, _-_}
 use mathlib.Core.Path.{_≡_, refl, sym, ap, _∙_, subst}
 use mathlib.Core.Logic.{⊎-elim}
 use native.Mathlib.Omega.{arith}
@@ -11,6 +11,7 @@ use Rattle.layers.specs.Keeping.{enters}
 use Rattle.layers.proofs.SlotLaws.{Filtering, filtering-none, filtering-more, filtering-skip, filtering-all}
 use Rattle.layers.proofs.SetTests.{filtered-same}
 use Rattle.layers.proofs.Bounds.{settings-count}
+use Rattle.layers.proofs.RowLaws.{lands-of, landing-of}
 use borrow.Author.Needs.{needs}
 use Rattle.layers.proofs.keep.keep_useful.Statement.{statement}
 use Rattle.layers.proofs.keep.keep_useful.Tie as tie
@@ -46,11 +47,18 @@ slice-read-sets c = search needs
 add-useful-sets : tie.Need-add-useful-sets Inv-loop μ-loop
 add-useful-sets c = search needs
 
+know-row-requires : tie.Need-know-row-requires Inv-loop μ-loop
+know-row-requires c κs =
+    let p = c .before .before .before .before .before .before .before in
+    (p .pre .0, (omega arith, c .before .before .before .before .loop .inv .2))
+
 useful-sets-requires : tie.Need-useful-sets-requires Inv-loop μ-loop
 useful-sets-requires c κs =
-    let l = c .before .before .before .before .before .loop in
-    let p = c .before .before .before .before .before .before .before .before in
-    (p .pre .0, (l .inv .2, (omega arith, omega arith, omega arith)))
+    let p = c .before .before .before .before .before .before .before .before .before .before in
+    let l = c .before .before .before .before .before .before .before .loop in
+    let w = c .before .before .know-row .ensures in
+    let small : l .x < 729 = omega arith in
+    ((omega arith, small, omega arith), landing-of (p .pre .0) (w .0) (l .x) small (w .1))
 
 mul-table : tie.Need-mul-table Inv-loop μ-loop
 mul-table c = search needs
@@ -78,13 +86,13 @@ loop-again c =
     ⊎-elim
     (λ w. (
       omega arith,
-      ap length (w .5) ∙ simp length-set (l .inv .1),
-      rw (w .4) (w .3 .ensures .0),
+      ap length (w .7) ∙ simp length-set (l .inv .1),
+      rw (w .6) (w .2 .ensures .0),
       λ net q.
           let test = enters net old (p .args .i + 1) in
-          subst (Filtering test (p .args .i) (l .x + 1) old) (sym (w .5))
-          (filtering-more test (p .args .i) (l .x) old (l .table) (l .inv .3 net q) (w .3 .result) (omega arith) (omega arith) (omega arith)
-          (filtered-same net old (l .table) (p .args .i) (l .x) _ (w .3 .result) (l .inv .3 net q .others) (w .3 .ensures .1 net q))),
+          subst (Filtering test (p .args .i) (l .x + 1) old) (sym (w .7))
+          (filtering-more test (p .args .i) (l .x) old (l .table) (l .inv .3 net q) (w .5 .result) (omega arith) (omega arith) (omega arith)
+          (filtered-same net old (l .table) (p .args .i) (l .x) _ (w .5 .result) (l .inv .3 net q .others) (w .5 .ensures net (lands-of q (w .2 .ensures .0) (l .x) (omega arith) (w .2 .ensures .1))))),
     ))
     (λ w. (
       omega arith,
@@ -120,6 +128,7 @@ keep-useful-spec =
     add-sets
     mul-sets-2
     slice-read-sets
+    know-row-requires
     add-useful-sets
     useful-sets-requires
     mul-table

@@ -9,7 +9,7 @@ use lib.ListN.{length, length-set}
 use Rattle.settings.specs.Rows.{RowsRight}
 use Rattle.settings.specs.Route.{Each}
 use Rattle.layers.specs.Keeping.{Kept}
-use Rattle.layers.proofs.RowLaws.{landing-of, listed-small, gain-read-small}
+use Rattle.layers.proofs.RowLaws.{landing-of, lands-of, listed-small, gain-read-small}
 use Rattle.layers.proofs.KeptWay.{Tracing, tracing-start, tracing-within, tracing-step, tracing-end}
 use borrow.Author.Needs.{needs}
 use Rattle.layers.proofs.trace.trace.Statement.{statement}
@@ -60,9 +60,9 @@ first-choice-requires c κs =
     let a = c .before .before .before .list-lands in
     let n = c .before .number in
     let lt = c .before .before .before .before .before .before .before .before .loop-test .taken in
-    let small = gain-read-small (p .pre .0 .1) (k .ensures .0) (l .x) (l .inv .1) (k .ensures .1) (n .result) (n .ensures) in (
+    let small = gain-read-small (lands-of (p .pre .0 .1) (k .ensures .0) (l .x) (l .inv .1) (k .ensures .1)) (n .result) (n .ensures) in (
       (p .pre .1 .1 .0 .0, a .ensures .most, omega (arith, p .pre .1 .1 .0 .3, lt), or-lt 4 (l .m) (n .result) (l .inv .2) small),
-      listed-small (p .pre .0 .1) (k .ensures .0) (l .x) (l .inv .1) (k .ensures .1) (a .ensures),
+      listed-small (lands-of (p .pre .0 .1) (k .ensures .0) (l .x) (l .inv .1) (k .ensures .1)) (a .ensures),
     )
 
 -- the choice is one of those of the setting
@@ -112,8 +112,8 @@ loop-again c =
     let lt = c .before .before .before .before .before .before .before .before .before .before .loop-test .taken in
     let few : f .result < 64 = omega (arith, chosen (c .before), a .ensures .most) in
     let e : f .result % 256 ≡ f .result = omega arith in
-    let small = gain-read-small (p .pre .0 .1) (k .ensures .0) (l .x) (l .inv .1) (k .ensures .1) (n .result) (n .ensures) in
-    let land = listed-small (p .pre .0 .1) (k .ensures .0) (l .x) (l .inv .1) (k .ensures .1) (a .ensures) (f .result) (chosen (c .before)) in (
+    let small = gain-read-small (lands-of (p .pre .0 .1) (k .ensures .0) (l .x) (l .inv .1) (k .ensures .1)) (n .result) (n .ensures) in
+    let land = listed-small (lands-of (p .pre .0 .1) (k .ensures .0) (l .x) (l .inv .1) (k .ensures .1)) (a .ensures) (f .result) (chosen (c .before)) in (
       omega (arith, lt),
       omega (arith, c .wide .ensures, land),
       or-lt 4 (l .m) (n .result) (l .inv .2) small,
