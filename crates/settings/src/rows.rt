@@ -149,6 +149,20 @@ fn write_stop(rows: &mut Rows, x: usize)
     rows[x * ROW + GAIN] = 0;
 }
 
+// The row of setting x is written, by a walk.
+fn read_row<'a>(nodes: &'a Nodes, steering: &'a Words, problem: Problem, x: usize, rows: &mut Rows)
+    requires { ⌜ Plannable (now nodes) (now steering) problem ⌝ }
+    requires { ⌜ (x < 729) × RowsRight (now nodes) (now steering) problem (now rows) ⌝ }
+    ensures { λ _. ⌜ RowsRight (now (nodes .entry)) (now (steering .entry)) problem (now (rows .exit)) ⌝ }
+    ensures { λ _. ⌜ rowNumber (now (rows .exit)) x 0 ≡ 1 ⌝ }
+{
+    let mut way: Way = [0; 128];
+    match walk_setting(nodes, steering, problem, x, &mut way) {
+        Walked::Stop(_) => write_stop(rows, x),
+        Walked::Path(n) => write_path(nodes, steering, problem, &way, n, x, rows),
+    }
+}
+
 // The row of setting x is written, if it was not before.
 pub fn know_row<'a>(
     nodes: &'a Nodes,
@@ -165,11 +179,7 @@ pub fn know_row<'a>(
     if number(rows, x, KNOWN) == 1 {
         return;
     }
-    let mut way: Way = [0; 128];
-    match walk_setting(nodes, steering, problem, x, &mut way) {
-        Walked::Stop(_) => write_stop(rows, x),
-        Walked::Path(n) => write_path(nodes, steering, problem, &way, n, x, rows),
-    }
+    read_row(nodes, steering, problem, x, rows);
 }
 
 // A power of 3 as a number of the table.
