@@ -22,7 +22,7 @@ use Rattle.path.specs.Words.{wordFrom, byteKnown}
 use Rattle.path.proofs.FieldLaws.{trits-of-field}
 use Rattle.text.proofs.Bits.{is-some, from-length}
 use Rattle.network.specs.declared.draft.Tally.{Tally}
-use Rattle.network.specs.Line.{bitsIn, valueOr}
+use Rattle.network_text.specs.Line.{bitsIn, valueOr}
 use Rattle.network.specs.Draws.{Draws}
 
 -- ---- the bits of a field of good form

@@ -18,9 +18,9 @@ use Rattle.model.proofs.LineForms.{GoodForm}
 use Rattle.model.proofs.Reading.{Sound, Stage, no-out, behind-out, sound-node, total-more}
 use Rattle.path.specs.Layout.{nodeAt, nodesOf, tritsOf}
 use Rattle.network.specs.declared.draft.Tally.{Tally}
-use Rattle.network.specs.declared.line.NodeData.{NodeData}
-use Rattle.network.specs.declared.line.NodeData.the-variants.{Segment, Multiplexer}
-use Rattle.network.specs.Line.{nodeFor, SmallNode}
+use Rattle.network_text.specs.declared.NodeData.{NodeData}
+use Rattle.network_text.specs.declared.NodeData.the-variants.{Segment, Multiplexer}
+use Rattle.network_text.specs.Line.{nodeFor, SmallNode}
 use Rattle.network.specs.Store.{Row, RowStored, Marked}
 use Rattle.network.specs.Draws.{Draws, targetAt, targetsOf}
 use Rattle.network.proofs.Nodes.{by-count, node-by-fields}

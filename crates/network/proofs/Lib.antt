@@ -1,5 +1,4 @@
 -- Laws of the record and of the lines that are added to it.
-pub mod Lines
 pub mod Nodes
 pub mod Drawing
 pub mod AddingNodes

@@ -18,7 +18,7 @@ use Rattle.model.specs.Network.{segment, multiplexer, tabulate}
 use Rattle.model.specs.NetworkText.{anyFrom, outside}
 use Rattle.model.proofs.Lists.{tabulate-cong}
 use Rattle.path.specs.Layout.{fieldAt, nodeAt, wordWidth, wordBit}
-use Rattle.network.specs.Line.{inputsOf}
+use Rattle.network_text.specs.Line.{inputsOf}
 use Rattle.network.specs.Store.{Row, RowStored, Small, BitMarked, Marked}
 
 -- ---- bounds

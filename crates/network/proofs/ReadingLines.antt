@@ -12,11 +12,11 @@ use Rattle.model.specs.NetworkText.{Draft, noLines, lineOf, addLine, atEnd, rea
 use Rattle.model.proofs.PlanTexts.{parts-more}
 use Rattle.text.specs.Places.{IsEnd}
 use Rattle.text.proofs.Parts.{rest-alone, rest-ended}
-use Rattle.network.specs.declared.line.Entry.{Entry}
-use Rattle.network.specs.declared.line.ParsedLine.{ParsedLine}
+use Rattle.network_text.specs.declared.Entry.{Entry}
+use Rattle.network_text.specs.declared.ParsedLine.{ParsedLine}
 use Rattle.network.specs.declared.add.Refusal.{Refusal}
 use Rattle.network.specs.declared.add.Refusal.the-variants.{Nothing, Refused}
-use Rattle.network.specs.Line.{bytesAt, entryMeans, GoodEntry, IsLine}
+use Rattle.network_text.specs.Line.{bytesAt, entryMeans, GoodEntry, IsLine}
 use Rattle.network.specs.declared.draft.Tally.{Tally}
 use Rattle.network.specs.declared.add.Added.{Added}
 use Rattle.network.specs.declared.reader.Lines.{Lines}

@@ -33,7 +33,7 @@ use Rattle.network.specs.Draws.{feedsOf, Draws, emptyTally}
 use Rattle.network.specs.Start.{StartFilled}
 use Rattle.network.specs.Counts.{countFrom}
 use Rattle.network.specs.Reads.{LinesAre, LinesRead, networkOf as recorded, readingBy, noNetwork, FilledIf, IsReading}
-use Rattle.network.proofs.Lines.{zero-at}
+use Rattle.model.proofs.Lists.{zero-at}
 use Rattle.network.proofs.Drawing.{drawn-out, drawn-words}
 use Rattle.network.proofs.Counting.{counts-steering}
 use Rattle.network.proofs.Starting.{start-config}

@@ -9,10 +9,10 @@ use Rattle.path.specs.Layout.{nodeAt, wordBit}
 use Rattle.model.specs.Text.{Bytes, trit, bit, bitsFrom}
 use Rattle.model.specs.NetworkText.{Draft, isSome, hasOut, addNode, addOut, addHold, fitsTarget, addFitting, addTarget}
 use Rattle.network.specs.declared.draft.Tally.{Tally}
-use Rattle.network.specs.declared.line.NodeData.{NodeData}
+use Rattle.network_text.specs.declared.NodeData.{NodeData}
 use Rattle.network.specs.declared.add.Added.{Added}
 use Rattle.network.specs.declared.add.Refusal.{Refusal}
-use Rattle.network.specs.Line.{nodeFor, bitsIn}
+use Rattle.network_text.specs.Line.{nodeFor, bitsIn}
 use Rattle.network.specs.Draws.{Draws, Agrees, targetFor}
 
 abbrev pub NodeAdded : List ℕ → List ℕ → Tally → ℕ → NodeData → Added → List ℕ → List ℕ → Type 0

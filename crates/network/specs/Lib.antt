@@ -1,5 +1,4 @@
 -- What the record means, and what the calls of this crate answer.
-pub mod Line
 pub mod Store
 pub mod Draws
 pub mod Added

@@ -1,5 +1,5 @@
 // The network as far as it is read: counts and targets go by value, the arrays are lent.
-use crate::line::NodeData;
+use network_text::NodeData;
 use path::layout::Nodes;
 use path::layout::WORD_BITS;
 use path::layout::Word;
@@ -12,7 +12,7 @@ ghost use lib.ListN.{length};
 ghost use Rattle.model.specs.Network.{lenOf};
 ghost use Rattle.model.specs.NetworkText.{outside, anyFrom};
 ghost use Rattle.path.specs.Layout.{nodeAt};
-ghost use Rattle.network.specs.Line.{nodeFor, inputsOf, SmallNode};
+ghost use Rattle.network_text.specs.Line.{nodeFor, inputsOf, SmallNode};
 ghost use Rattle.network.specs.Store.{Row, RowStored, Marked};
 
 // Counts, the node that feeds scan-out, and the targets: a target's word is 1 for `write` and 0 for `read`.

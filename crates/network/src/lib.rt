@@ -3,6 +3,5 @@ pub mod add;
 pub mod bad;
 pub mod counts;
 pub mod draft;
-pub mod line;
 pub mod reader;
 pub mod start;

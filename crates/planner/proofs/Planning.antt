@@ -9,13 +9,12 @@ use lib.ListN.{length, replicate, length-replicate}
 use Rattle.model.specs.Network.{steeringBits, tabulate}
 use Rattle.model.specs.PlanText.{writePlan}
 use Rattle.model.specs.Calls.{writeOver, searchEntries}
-use Rattle.model.proofs.Lists.{length-tabulate}
+use Rattle.model.proofs.Lists.{zero-at, length-tabulate}
 use Rattle.path.specs.Layout.{lookIn}
 use Rattle.plan_text.proofs.Writing.{over-none}
 use Rattle.network.specs.declared.reader.Network.{Network}
 use Rattle.network.specs.Draws.{targetAt}
 use Rattle.network.specs.Reads.{networkOf}
-use Rattle.network.proofs.Lines.{zero-at}
 use Rattle.search.specs.Settings.{settingOf, numberOf}
 use Rattle.search.specs.Moves.{decode}
 use Rattle.search.proofs.SettingNumbers.{setting-small}

@@ -10,7 +10,7 @@ use Prim.Native.Nat.{ℕ, _≤_}
 use Rattle.network.proofs.AddingHolds.{bits-in-length, unfit-none, unfit-length, fit, hold-4, hold-6, held-6, hold-added, with-hold}
 use Rattle.network.proofs.BadAddresses.{node-in}
 use Rattle.network.proofs.Drawing.{agrees-refused, agrees-ok, drawn-out, drawn-len}
-use Rattle.network.specs.Line.{bitsIn}
+use Rattle.network_text.specs.Line.{bitsIn}
 use Rattle.model.specs.Network.{lenOf}
 use Rattle.model.specs.NetworkText.{Draft, isSome, fitsBits, withHold}
 use Rattle.model.specs.Text.{trit, bitsFrom}

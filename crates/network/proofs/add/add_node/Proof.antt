@@ -8,7 +8,7 @@ use Rattle.model.specs.NetworkText.{withNode}
 use mathlib.Core.Path.{refl, sym, _∙_}
 use Rattle.network.proofs.AddingNodes.{node-4, node-2, node-3, bits-3, node-added, good-form, longer}
 use Rattle.network.proofs.Drawing.{agrees-refused, agrees-ok, drawn-out, drawn-count}
-use Rattle.network.specs.Line.{nodeFor}
+use Rattle.network_text.specs.Line.{nodeFor}
 use native.Mathlib.Omega.{arith}
 use borrow.Author.Needs.{needs}
 use Rattle.network.proofs.add.add_node.Statement.{statement}

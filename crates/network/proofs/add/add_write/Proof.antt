@@ -6,7 +6,7 @@ use Rattle.model.specs.Network.{tabulate, write, lenOf}
 use Prim.Native.Nat.{ℕ, _≤_}
 use lib.ListN.{length}
 use Rattle.path.proofs.FieldLaws.{bits-of-field}
-use Rattle.network.specs.Line.{bitsIn}
+use Rattle.network_text.specs.Line.{bitsIn}
 use Rattle.model.specs.Text.{bit}
 use Rattle.network.proofs.BadAddresses.{node-in}
 use Rattle.network.proofs.AddingTargets.{target-4, target-6, target-rest, agrees-same}

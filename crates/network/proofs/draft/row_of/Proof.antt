@@ -1,7 +1,7 @@
 -- `network::draft::row_of` meets its contract: the eight numbers of a node, for each of the two kinds.
 -- Assumes nothing.
-use Rattle.network.specs.declared.line.NodeData.the-variants.{Multiplexer}
-use Rattle.network.specs.Line.{SmallNode}
+use Rattle.network_text.specs.declared.NodeData.the-variants.{Multiplexer}
+use Rattle.network_text.specs.Line.{SmallNode}
 use native.Mathlib.Omega.{arith}
 use Rattle.network.proofs.Nodes.{segment-row, mux-row}
 use borrow.Author.Needs.{needs}

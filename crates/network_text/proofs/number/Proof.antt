@@ -1,10 +1,10 @@
--- `network::line::number` meets its contract.
+-- `network_text::number` meets its contract.
 -- Assumes nothing.
 use mathlib.Core.Path.{subst}
 use borrow.Author.Needs.{needs}
 use Rattle.text.specs.Numbers.{IsDecimal}
-use Rattle.network.proofs.line.number.Statement.{statement}
-use Rattle.network.proofs.line.number.Tie as tie
+use Rattle.network_text.proofs.number.Statement.{statement}
+use Rattle.network_text.proofs.number.Tie as tie
 
 field-requires : tie.Need-field-requires
 field-requires c κs = search needs

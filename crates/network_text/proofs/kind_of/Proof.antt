@@ -1,9 +1,9 @@
--- `network::line::kind_of` meets its contract, comparison by comparison.
+-- `network_text::kind_of` meets its contract, comparison by comparison.
 -- Assumes nothing.
 use mathlib.Core.Path.{sym, _∙_}
 use borrow.Author.Needs.{needs}
-use Rattle.network.proofs.line.kind_of.Statement.{statement}
-use Rattle.network.proofs.line.kind_of.Tie as tie
+use Rattle.network_text.proofs.kind_of.Statement.{statement}
+use Rattle.network_text.proofs.kind_of.Tie as tie
 
 slice-aggregate-equal : tie.Need-slice-aggregate-equal
 slice-aggregate-equal c = search needs

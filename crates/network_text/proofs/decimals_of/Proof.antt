@@ -1,12 +1,12 @@
--- `network::line::decimals_of` meets its contract. The loop's invariant: k fields behind the first are read.
+-- `network_text::decimals_of` meets its contract. The loop's invariant: k fields behind the first are read.
 -- Assumes nothing.
 use Prim.Native.Nat.{_-_}
 use native.Mathlib.Omega.{arith}
 use borrow.Author.Needs.{needs}
 use Rattle.model.specs.Text.{fields}
-use Rattle.network.proofs.Lines.{read-as, Done, done-none, done-bad, done-all, done-next}
-use Rattle.network.proofs.line.decimals_of.Statement.{statement}
-use Rattle.network.proofs.line.decimals_of.Tie as tie
+use Rattle.network_text.proofs.Lines.{read-as, Done, done-none, done-bad, done-all, done-next}
+use Rattle.network_text.proofs.decimals_of.Statement.{statement}
+use Rattle.network_text.proofs.decimals_of.Tie as tie
 
 abbrev Inv-loop : tie.InvT-loop
 Inv-loop line starts count values₀ k₀ values k = Done (fields line) values k

@@ -1,4 +1,4 @@
--- `network::line::bits_line` meets its contract, by the place of BITS.
+-- `network_text::bits_line` meets its contract, by the place of BITS.
 -- Assumes nothing.
 use mathlib.Core.Bool.{Bool, true, false, cond}
 use mathlib.Core.Path.{_≡_, refl, sym, ap, _∙_}
@@ -9,10 +9,10 @@ use Rattle.model.specs.NetworkText.{field, lineBy}
 use Rattle.model.specs.Text.{Bytes, fields, Hold, Write}
 use Rattle.text.specs.Places.{FieldAt}
 use Rattle.text.specs.Bits.{bitsForm}
-use Rattle.network.specs.Line.{IsEntry}
-use Rattle.network.proofs.Lines.{read-as, wrong, bitsEntry, bits-count, bits-number, bits-wrong, bits-line, plain-line, bits-at}
-use Rattle.network.proofs.line.bits_line.Statement.{statement}
-use Rattle.network.proofs.line.bits_line.Tie as tie
+use Rattle.network_text.specs.Line.{IsEntry}
+use Rattle.network_text.proofs.Lines.{read-as, wrong, bitsEntry, bits-count, bits-number, bits-wrong, bits-line, plain-line, bits-at}
+use Rattle.network_text.proofs.bits_line.Statement.{statement}
+use Rattle.network_text.proofs.bits_line.Tie as tie
 
 abbrev start : tie.After-end → tie.Start
 start c = c .before .before .before .before .before .before .before .before

@@ -10,14 +10,14 @@ use Rattle.model.specs.Text.{Bytes, bit, trit, bitsFrom}
 use Rattle.model.specs.Network.{Node, segment, multiplexer, read, write}
 use Rattle.model.specs.NetworkText.{Line, node, out, hold, target, decimals, lineOf, isSome}
 use Rattle.text.specs.Places.{IsSplit}
-use Rattle.network.specs.declared.line.NodeData.{NodeData}
-use Rattle.network.specs.declared.line.NodeData.the-variants.{Segment, Multiplexer}
-use Rattle.network.specs.declared.line.Entry.{Entry}
-use Rattle.network.specs.declared.line.Entry.the-variants.{Wrong, Node as NodeEntry, Out, Hold, Write, Read}
-use Rattle.network.specs.declared.line.ParsedLine.{ParsedLine}
-use Rattle.network.specs.declared.line.Kind.{Kind}
-use Rattle.network.specs.declared.line.Kind.the-variants.{Shadow, Plain, Unknown}
-use Rattle.network.specs.declared.line.Decimals.{Decimals}
+use Rattle.network_text.specs.declared.NodeData.{NodeData}
+use Rattle.network_text.specs.declared.NodeData.the-variants.{Segment, Multiplexer}
+use Rattle.network_text.specs.declared.Entry.{Entry}
+use Rattle.network_text.specs.declared.Entry.the-variants.{Wrong, Node as NodeEntry, Out, Hold, Write, Read}
+use Rattle.network_text.specs.declared.ParsedLine.{ParsedLine}
+use Rattle.network_text.specs.declared.Kind.{Kind}
+use Rattle.network_text.specs.declared.Kind.the-variants.{Shadow, Plain, Unknown}
+use Rattle.network_text.specs.declared.Decimals.{Decimals}
 
 -- ---- the parts of a line
 

@@ -1,4 +1,4 @@
--- `network::line::parse` meets its contract, word by word.
+-- `network_text::parse` meets its contract, word by word.
 -- Assumes nothing.
 use mathlib.Core.Path.{_≡_, refl, sym, ap, _∙_}
 use native.Mathlib.Omega.{arith}
@@ -8,11 +8,11 @@ use Rattle.model.specs.Text.{Bytes, bind, tab, fields, wordOf}
 use Rattle.text.specs.declared.Word.the-variants.{Seg, Mux, Out, Hold, Write, Read, Csu, Unknown}
 use Rattle.text.specs.declared.Word.{Word}
 use Rattle.text.specs.Words.{wordFor}
-use Rattle.network.specs.declared.line.ParsedLine.{ParsedLine}
-use Rattle.network.specs.Line.{IsParsed, IsLine}
-use Rattle.network.proofs.Lines.{parts-some, wrong, plain-line, word-line}
-use Rattle.network.proofs.line.parse.Statement.{statement}
-use Rattle.network.proofs.line.parse.Tie as tie
+use Rattle.network_text.specs.declared.ParsedLine.{ParsedLine}
+use Rattle.network_text.specs.Line.{IsParsed, IsLine}
+use Rattle.network_text.proofs.Lines.{parts-some, wrong, plain-line, word-line}
+use Rattle.network_text.proofs.parse.Statement.{statement}
+use Rattle.network_text.proofs.parse.Tie as tie
 
 abbrev lineAt : tie.After-word-of → Bytes
 lineAt c = c .before .before .before .before .before .before .args .line .now

@@ -1,11 +1,11 @@
--- `network::line::mux_line` meets its contract.
+-- `network_text::mux_line` meets its contract.
 -- Assumes nothing.
 use native.Mathlib.Omega.{arith}
 use borrow.Author.Tests.{not-true, not-false}
 use borrow.Author.Needs.{needs}
-use Rattle.network.proofs.Lines.{wrong, mux-few, mux-many, mux-bad, mux-line}
-use Rattle.network.proofs.line.mux_line.Statement.{statement}
-use Rattle.network.proofs.line.mux_line.Tie as tie
+use Rattle.network_text.proofs.Lines.{wrong, mux-few, mux-many, mux-bad, mux-line}
+use Rattle.network_text.proofs.mux_line.Statement.{statement}
+use Rattle.network_text.proofs.mux_line.Tie as tie
 
 returns : tie.Need-returns
 returns c = wrong (mux-few _ (omega arith))

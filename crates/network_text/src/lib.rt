@@ -8,7 +8,7 @@ ghost use Rattle.model.specs.Text.{fields, Seg, Mux, Out, Hold, Write, Read};
 ghost use Rattle.model.specs.NetworkText.{field, kind, lineBy};
 ghost use Rattle.text.specs.Numbers.{IsDecimal};
 ghost use Rattle.text.specs.Places.{Starts};
-ghost use Rattle.network.specs.Line.{kindFor, Placed, AreDecimals, IsEntry, plainLine, IsParsed, IsLine};
+ghost use Rattle.network_text.specs.Line.{kindFor, Placed, AreDecimals, IsEntry, plainLine, IsParsed, IsLine};
 use text::Number;
 use text::Word;
 

@@ -1,16 +1,16 @@
--- `network::line::seg_line` meets its contract, field by field.
+-- `network_text::seg_line` meets its contract, field by field.
 -- Assumes nothing.
 use mathlib.Core.List.{[]}
 use mathlib.Core.Path.{_≡_, sym, ap, _∙_}
 use borrow.Author.Needs.{needs}
 use Rattle.model.specs.NetworkText.{segLine, kind}
 use Rattle.model.specs.Text.{fields}
-use Rattle.network.specs.declared.line.Kind.the-variants.{Shadow, Plain, Unknown}
-use Rattle.network.specs.declared.line.Kind.{Kind}
-use Rattle.network.specs.Line.{kindFor, IsEntry}
-use Rattle.network.proofs.Lines.{read-as, wrong, segEntry, seg-count, seg-from, seg-len, seg-kind}
-use Rattle.network.proofs.line.seg_line.Statement.{statement}
-use Rattle.network.proofs.line.seg_line.Tie as tie
+use Rattle.network_text.specs.declared.Kind.the-variants.{Shadow, Plain, Unknown}
+use Rattle.network_text.specs.declared.Kind.{Kind}
+use Rattle.network_text.specs.Line.{kindFor, IsEntry}
+use Rattle.network_text.proofs.Lines.{read-as, wrong, segEntry, seg-count, seg-from, seg-len, seg-kind}
+use Rattle.network_text.proofs.seg_line.Statement.{statement}
+use Rattle.network_text.proofs.seg_line.Tie as tie
 
 abbrev start : tie.After-kind-of → tie.Start
 start c = c .before .before .before .before .before .before .before .before .before .before .before .before

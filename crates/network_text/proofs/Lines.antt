@@ -8,27 +8,27 @@ use Prim.Native.Nat.{ℕ, zero, suc, _+_, _-_, _≤_, _<_}
 use native.Mathlib.Omega.{arith}
 use native.Mathlib.Nat.{zero-add}
 use native.Mathlib.Numerals.{add-one}
-use lib.ListN.{length, take, drop, getD, set, replicate, drop-of-length-le, length-set}
+use lib.ListN.{length, take, drop, getD, set, drop-of-length-le, length-set}
 use lib.Seq.{drop-cons, take-suc-set, getD-set-same, getD-set-other, ext-getD}
 use lib.Dec.{eqb}
 use borrow.Author.Tests.{eq-eqb, ne-eqb, le-leb, lt-leb, eqb-true, eqb-false}
 use Rattle.model.specs.Text.{Bytes, bind, inFirst, parts, fields, decimal, Word, Out, Hold, Write, Read, wordOf, bitsFrom, bitsField, bit, trit}
 use Rattle.model.specs.Network.{segment, multiplexer, tabulate}
 use Rattle.model.specs.NetworkText.{Line, node, hold, field, kind, decimals, segLine, muxLine, numberLine, bitsLine, lineBy, lineOf, isSome}
-use Rattle.model.proofs.Lists.{getD-tabulate}
+use Rattle.model.proofs.Lists.{zero-at, getD-tabulate}
 use Rattle.text.specs.Numbers.{numberOf, IsDecimal}
 use Rattle.text.specs.Bits.{bitsForm}
 use Rattle.text.specs.Places.{FieldAt}
 use Rattle.text.specs.declared.Number.{Number}
 use Rattle.text.proofs.Bits.{is-some, is-none, field-from}
-use Rattle.network.specs.Line.{kindFor, AreDecimals, bitsIn, IsEntry, plainLine, IsParsed, IsLine}
-use Rattle.network.specs.declared.line.NodeData.the-variants.{Segment, Multiplexer}
-use Rattle.network.specs.declared.line.Entry.{Entry}
-use Rattle.network.specs.declared.line.Entry.the-variants.{Wrong, Node as NodeEntry, Out as OutEntry, Hold as HoldEntry, Write as WriteEntry, Read as ReadEntry}
-use Rattle.network.specs.declared.line.ParsedLine.{ParsedLine}
-use Rattle.network.specs.declared.line.Kind.{Kind}
-use Rattle.network.specs.declared.line.Kind.the-variants.{Shadow, Plain, Unknown}
-use Rattle.network.specs.declared.line.Decimals.{Decimals}
+use Rattle.network_text.specs.Line.{kindFor, AreDecimals, bitsIn, IsEntry, plainLine, IsParsed, IsLine}
+use Rattle.network_text.specs.declared.NodeData.the-variants.{Segment, Multiplexer}
+use Rattle.network_text.specs.declared.Entry.{Entry}
+use Rattle.network_text.specs.declared.Entry.the-variants.{Wrong, Node as NodeEntry, Out as OutEntry, Hold as HoldEntry, Write as WriteEntry, Read as ReadEntry}
+use Rattle.network_text.specs.declared.ParsedLine.{ParsedLine}
+use Rattle.network_text.specs.declared.Kind.{Kind}
+use Rattle.network_text.specs.declared.Kind.the-variants.{Shadow, Plain, Unknown}
+use Rattle.network_text.specs.declared.Decimals.{Decimals}
 
 -- ---- what the functions find
 
@@ -154,11 +154,6 @@ pub record Done (fs : List Bytes) (values : List ℕ) (k : ℕ) : Type 0 where
 bind-some : {A : Type 0} (o : Option A) → bind o (λ a. some a) ≡ o
 bind-some none = refl
 bind-some (some a) = refl
-
-pub zero-at : (n j : ℕ) → getD {A = ℕ} (replicate n 0) j 0 ≡ 0
-zero-at zero j = refl
-zero-at (suc n) zero = refl
-zero-at (suc n) (suc j) = zero-at n j
 
 pub done-none : (fs : List Bytes) → 1 ≤ length fs → Done fs (0 ∷ 0 ∷ 0 ∷ 0 ∷ 0 ∷ 0 ∷ []) 0
 done-none fs h = record { few = h; long = refl; small = λ j. omega (arith, zero-at 6 j); rest = bind-some (decimals (drop 1 fs)) }

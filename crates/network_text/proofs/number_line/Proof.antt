@@ -1,4 +1,4 @@
--- `network::line::number_line` meets its contract.
+-- `network_text::number_line` meets its contract.
 -- Assumes nothing.
 use mathlib.Core.Bool.{Bool, true, false, cond}
 use mathlib.Core.List.{[]}
@@ -6,10 +6,10 @@ use mathlib.Core.Path.{sym, _∙_}
 use borrow.Author.Needs.{needs}
 use Rattle.model.specs.Text.{fields, Out, Read}
 use Rattle.model.specs.NetworkText.{lineBy}
-use Rattle.network.specs.Line.{IsEntry}
-use Rattle.network.proofs.Lines.{read-as, wrong, numberEntry, number-count, number-none, number-line}
-use Rattle.network.proofs.line.number_line.Statement.{statement}
-use Rattle.network.proofs.line.number_line.Tie as tie
+use Rattle.network_text.specs.Line.{IsEntry}
+use Rattle.network_text.proofs.Lines.{read-as, wrong, numberEntry, number-count, number-none, number-line}
+use Rattle.network_text.proofs.number_line.Statement.{statement}
+use Rattle.network_text.proofs.number_line.Tie as tie
 
 -- the number is read
 known : (c : tie.After-known-told) (t : Bool)
