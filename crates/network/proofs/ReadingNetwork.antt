@@ -26,13 +26,15 @@ use Rattle.path.proofs.StoredLaws.{stored-walkable, found-walk}
 use Rattle.network.specs.declared.draft.Tally.{Tally}
 use Rattle.network.specs.declared.add.Refusal.the-variants.{Nothing, Refused}
 use Rattle.network.specs.declared.reader.Lines.{Lines}
+use Rattle.network.specs.declared.reader.Ending.{Ending}
+use Rattle.network.specs.declared.reader.Ending.the-variants.{Refused as EndRefused, Recorded}
 use Rattle.network.specs.declared.reader.Network.{Network}
 use Rattle.network.specs.declared.reader.Verdict.the-variants.{Accepted, Refused as Rejected}
 use Rattle.network.specs.declared.reader.Reading.{Reading}
-use Rattle.network.specs.Draws.{feedsOf, Draws, emptyTally}
+use Rattle.network.specs.Draws.{feedsOf, Short, Draws, emptyTally}
 use Rattle.network.specs.Start.{StartFilled}
 use Rattle.network.specs.Counts.{countFrom}
-use Rattle.network.specs.Reads.{LinesAre, LinesRead, networkOf as recorded, readingBy, noNetwork, FilledIf, IsReading}
+use Rattle.network.specs.Reads.{LinesAre, networkOf as recorded, recordOf, EndsAs, Begun, StartWalked, finishOf, readingBy, noNetwork, FilledIf, IsReading}
 use Rattle.model.proofs.Lists.{zero-at}
 use Rattle.network.proofs.Drawing.{drawn-out, drawn-words}
 use Rattle.network.proofs.Counting.{counts-steering}
@@ -74,64 +76,86 @@ reading-refused t r number place e q = record {
 module _ (t : Bytes) where
   pub too-long : 16384 < length t → readNetwork t ≡ refused 3 0
   unfolding readNetwork
-  too-long l = ap (λ (b : Bool). refuseIf b 3 0 (andThen (readLines noLines 1 (parts lineEnd t)) (λ r. finish (r .0) (r .1) (r .1 .feeds)))) (lt-ltb 16384 (length t) l)
+  too-long l = ap (λ (b : Bool). refuseIf b 3 0 (finishOf (readLines noLines 1 (parts lineEnd t)))) (lt-ltb 16384 (length t) l)
 
   module _ (short : length t ≤ 16384) where
-    of-lines : readNetwork t ≡ andThen (readLines noLines 1 (parts lineEnd t)) (λ r. finish (r .0) (r .1) (r .1 .feeds))
+    of-lines : readNetwork t ≡ finishOf (readLines noLines 1 (parts lineEnd t))
     unfolding readNetwork
-    of-lines = ap (λ (b : Bool). refuseIf b 3 0 (andThen (readLines noLines 1 (parts lineEnd t)) (λ r. finish (r .0) (r .1) (r .1 .feeds)))) (le-ltb 16384 (length t) short)
+    of-lines = ap (λ (b : Bool). refuseIf b 3 0 (finishOf (readLines noLines 1 (parts lineEnd t)))) (le-ltb 16384 (length t) short)
 
-    module _ (ns bits known steering held : List ℕ) (r : Lines) (lines : LinesRead t r ns bits known steering held) where
-      pub lines-rejected : (number place : ℕ) → r .refusal ≡ Refused number place → readNetwork t ≡ refused number place
-      lines-rejected number place e = of-lines ∙ go (readLines noLines 1 (parts lineEnd t)) lines
-        where
-          go : (a : Result (ℕ × Draft)) → LinesAre ns bits known steering held a r → andThen a (λ r. finish (r .0) (r .1) (r .1 .feeds)) ≡ refused number place
-          go (ok nd) f = absurd (let z : Nothing ≡ Refused number place = sym (f .0) ∙ e in let y : _≡_ {A = ℕ} 0 1 = cc in omega arith)
-          go (refused a b) f = let z : Refused a b ≡ Refused number place = sym f ∙ e in let x : a ≡ number = cc in let y : b ≡ place = cc in rw (x, y)
+    module _ (ns bits known steering : List ℕ) (y : Tally) (r : Ending) (ends : EndsAs ns bits known steering y (finishOf (readLines noLines 1 (parts lineEnd t))) r) where
+      pub ends-refused : (number place : ℕ) → r ≡ EndRefused number place → readNetwork t ≡ refused number place
+      ends-refused number place e = of-lines ∙ subst (EndsAs ns bits known steering y (finishOf (readLines noLines 1 (parts lineEnd t)))) e ends
 
-      -- the lines are read
-      pub record Read : Type 0 where
-        pub draft : Draft
-        pub drawn : Draws ns bits known steering held (r .tally) draft (r .next)
-        pub finishes : readNetwork t ≡ finish (r .next) draft (draft .feeds)
+      pub ends-recorded : (count len : ℕ) → r ≡ Recorded count len → IsReading t record { verdict = Accepted; network = recordOf ns bits known steering y count len }
+      ends-recorded count len e =
+          let f = subst (EndsAs ns bits known steering y (finishOf (readLines noLines 1 (parts lineEnd t)))) e ends in
+          record { reads = sym (of-lines ∙ f .0); filled = f .1 }
 
-      pub lines-read : r .refusal ≡ Nothing → Read
-      lines-read e = go (readLines noLines 1 (parts lineEnd t)) refl lines
-        where
-          go : (a : Result (ℕ × Draft)) → readLines noLines 1 (parts lineEnd t) ≡ a → LinesAre ns bits known steering held a r → Read
-          go (ok nd) q f = record {
-            draft = nd .1;
-            drawn = rw (f .1) (f .2);
-            finishes = of-lines ∙ ap (λ (x : Result (ℕ × Draft)). andThen x (λ r. finish (r .0) (r .1) (r .1 .feeds))) q ∙ rw (f .1) refl;
-          }
-          go (refused a b) q f = absurd (let z : Nothing ≡ Refused a b = sym e ∙ f in let y : _≡_ {A = ℕ} 0 1 = cc in omega arith)
+-- ---- behind the lines
 
-      -- without an `out` line
-      pub no-out-line : (w : Read) → r .tally .«has_out» ≡ false → readNetwork t ≡ refused 4 (r .next)
-      no-out-line w e = w .finishes ∙ ap (finish (r .next) (w .draft)) (sym (w .drawn .out-is) ∙ ap (λ (b : Bool). feedsOf b (r .tally .out)) e)
+module _ (ns bits known steering held : List ℕ) (r : Lines) (a : Result (ℕ × Draft)) (lines : LinesAre ns bits known steering held a r) where
+  pub lines-rejected : (number place : ℕ) → r .refusal ≡ Refused number place → finishOf a ≡ refused number place
+  lines-rejected number place e = go a lines
+    where
+      go : (a : Result (ℕ × Draft)) → LinesAre ns bits known steering held a r → finishOf a ≡ refused number place
+      go (ok nd) f = absurd (let z : Nothing ≡ Refused number place = sym (f .0) ∙ e in let y : _≡_ {A = ℕ} 0 1 = cc in omega arith)
+      go (refused m p) f = let z : Refused m p ≡ Refused number place = sym f ∙ e in let x : m ≡ number = cc in let y : p ≡ place = cc in rw (x, y)
+
+  -- the lines are read
+  pub record Read : Type 0 where
+    pub draft : Draft
+    pub drawn : Draws ns bits known steering held (r .tally) draft (r .next)
+    pub finishes : finishOf a ≡ finish (r .next) draft (draft .feeds)
+
+  pub lines-read : r .refusal ≡ Nothing → Read
+  lines-read e = go a refl lines
+    where
+      go : (b : Result (ℕ × Draft)) → a ≡ b → LinesAre ns bits known steering held b r → Read
+      go (ok nd) q f = record { draft = nd .1; drawn = rw (f .1) (f .2); finishes = ap finishOf q ∙ rw (f .1) refl }
+      go (refused m p) q f = absurd (let z : Nothing ≡ Refused m p = sym e ∙ f in let y : _≡_ {A = ℕ} 0 1 = cc in omega arith)
+
+  module _ (w : Read) where
+    -- without an `out` line
+    pub no-out-line : r .tally .«has_out» ≡ false → finishOf a ≡ refused 4 (r .next)
+    no-out-line e = w .finishes ∙ ap (finish (r .next) (w .draft)) (sym (w .drawn .out-is) ∙ ap (λ (b : Bool). feedsOf b (r .tally .out)) e)
+
+    module _ (e : r .tally .«has_out» ≡ true) (bits′ known′ : List ℕ) (f : StartFilled bits known steering held (r .tally .count) bits′ known′) where
+      pub begun : Begun ns bits′ known′ steering (r .tally) (w .draft) (r .next)
+      begun = record { bits₀ = bits; known₀ = known; held = held; drawn = w .drawn; fed = e; filled = f }
+
+      pub start-ends : (x : Ending) → StartWalked ns bits′ known′ steering (r .tally) x → EndsAs ns bits′ known′ steering (r .tally) (finishOf a) x
+      start-ends x s = subst (λ (z : Result ModelNetwork). EndsAs ns bits′ known′ steering (r .tally) z x) (sym (w .finishes)) (s (w .draft) (r .next) begun)
 
 -- ---- the start, for a text with an `out` line
 
-module _ (ns bits known steering held : List ℕ) (y : Tally) (d : Draft) (n : ℕ) (w : Draws ns bits known steering held y d n) (q : y .«has_out» ≡ true) where
+module _ (ns bits known steering : List ℕ) (y : Tally) (d : Draft) (n : ℕ) (b : Begun ns bits known steering y d n) where
+  abbrev w : Draws ns (b .bits₀) (b .known₀) steering (b .held) y d n
+  w = b .drawn
+
   fed : d .feeds ≡ some (y .out)
-  fed = sym (w .out-is) ∙ ap (λ (b : Bool). feedsOf b (y .out)) q
+  fed = sym (w .out-is) ∙ ap (λ (x : Bool). feedsOf x (y .out)) (b .fed)
 
   -- the arrays hold the network of the draft
   stored : Stored (networkOf d (y .out)) ns (y .count) (y .out)
   stored = record { nodes = sym (w .nodes-are); feeds = refl; most = w .tame .nodes-fit; formed = draft-formed d n (y .out) (w .sound) fed }
 
-  -- what `find_path` asks
+  -- what the calls for the start ask
   pub start-walkable : (way : List ℕ) → length way ≡ 128 → Walkable ns (y .out) way 0
   start-walkable = stored-walkable (networkOf d (y .out)) ns (y .count) (y .out) stored
 
-  module _ (bits′ known′ : List ℕ) (f : StartFilled bits known steering held (y .count) bits′ known′) (r : Walked) (way : List ℕ) (found : Found ns bits′ known′ (y .out) r way) where
-    start-is : configOf ns bits′ known′ (y .count) ≡ startOf (d .nodes) (d .holds)
-    start-is = start-config ns bits known steering held y d n w (drawn-out ns bits known steering held y d n w ∙ q) bits′ known′ f
+  pub start-short : (y .count ≤ 128) × Short ns (y .count)
+  start-short = (w .tame .nodes-fit, drawn-words ns (b .bits₀) (b .known₀) steering (b .held) y d n w)
 
+  start-is : configOf ns bits known (y .count) ≡ startOf (d .nodes) (d .holds)
+  start-is =
+      start-config ns (b .bits₀) (b .known₀) steering (b .held) y d n w (drawn-out ns (b .bits₀) (b .known₀) steering (b .held) y d n w ∙ b .fed) bits known (b .filled)
+
+  module _ (r : Walked) (way : List ℕ) (found : Found ns bits known (y .out) r way) where
     start-walk : walk (networkOf d (y .out)) (networkOf d (y .out) .start) ≡ told ns way r
     start-walk =
         ap (walk (networkOf d (y .out))) (sym start-is)
-        ∙ found-walk (networkOf d (y .out)) ns (y .count) (y .out) stored bits′ known′ r way found
+        ∙ found-walk (networkOf d (y .out)) ns (y .count) (y .out) stored bits known r way found
 
     finished : finish n d (d .feeds) ≡ ifStarts (networkOf d (y .out)) (told ns way r)
     finished = ap (finish n d) fed ∙ ap (ifStarts (networkOf d (y .out))) start-walk
@@ -142,13 +166,13 @@ module _ (ns bits known steering held : List ℕ) (y : Tally) (d : Draft) (n : �
 
     module _ (count len : ℕ) where
       abbrev Written : Network
-      Written = record { nodes = ns; bits = bits′; known = known′; steering = steering; tally = y; «steering_count» = count; «start_length» = len }
+      Written = recordOf ns bits known steering y count len
 
       recorded-is : networkOf d (y .out) ≡ recorded Written
       recorded-is =
           ap (λ (c : Config). record { nodes = d .nodes; out = y .out; start = c; targets = d .targets }) (sym start-is)
-          ∙ ap (λ (l : List Node). record { nodes = l; out = y .out; start = configOf ns bits′ known′ (y .count); targets = d .targets }) (sym (w .nodes-are))
-          ∙ ap (λ (l : List Target). record { nodes = nodesOf ns (y .count); out = y .out; start = configOf ns bits′ known′ (y .count); targets = l }) (sym (w .targets-are))
+          ∙ ap (λ (l : List Node). record { nodes = l; out = y .out; start = configOf ns bits known (y .count); targets = d .targets }) (sym (w .nodes-are))
+          ∙ ap (λ (l : List Target). record { nodes = nodesOf ns (y .count); out = y .out; start = configOf ns bits known (y .count); targets = l }) (sym (w .targets-are))
 
       start-found : (k : ℕ) → r ≡ Path k → finish n d (d .feeds) ≡ ok (recorded Written)
       start-found k e = finished ∙ ap (λ (x : Walked). ifStarts (networkOf d (y .out)) (told ns way x)) e ∙ ap ok recorded-is
@@ -156,20 +180,20 @@ module _ (ns bits known steering held : List ℕ) (y : Tally) (d : Draft) (n : �
       same-steering : (s b : ℕ) → s ≤ 128 → b < wordWidth → wordBit (getD steering s 0) b ≡ steers (nodesOf ns (y .count)) s b
       same-steering s b l m = w .steering-is s b l m ∙ ap (λ (x : List Node). steers x s b) (sym (w .nodes-are))
 
-      pub reading-accepted : (t : Bytes) (k : ℕ) → readNetwork t ≡ finish n d (d .feeds) → r ≡ Path k
-          → count ≡ countFrom ns steering 1 (y .count) → len ≡ pathLength (scanPath ns (take k way)) → IsReading t record { verdict = Accepted; network = Written }
-      reading-accepted t k g e a b = record {
-        reads = sym (g ∙ start-found k e);
-        filled = record {
+      pub start-recorded : (k : ℕ) → r ≡ Path k → count ≡ countFrom ns steering 1 (y .count) → len ≡ pathLength (scanPath ns (take k way))
+          → EndsAs ns bits known steering y (finish n d (d .feeds)) (Recorded count len)
+      start-recorded k e a l = (
+        start-found k e,
+        record {
           nodes-size = w .sized .nodes;
-          bits-size = f .bits-size ∙ w .sized .bit-words;
-          known-size = f .known-size ∙ w .sized .known-words;
+          bits-size = b .filled .bits-size ∙ w .sized .bit-words;
+          known-size = b .filled .known-size ∙ w .sized .known-words;
           steering-size = w .sized .steering-words;
           tame = w .tame;
           steering-is = same-steering;
           steering-small = w .steering-small;
           totals = w .total-is ∙ ap totalBits (sym (w .nodes-are));
-          counted = a ∙ counts-steering ns steering (y .count) (w .tame .nodes-fit) (drawn-words ns bits known steering held y d n w) same-steering;
-          start-long = b ∙ ap (λ (x : Walk). pathLength (pathOf x)) (sym (start-walk ∙ ap (told ns way) e)) ∙ ap (λ (net : ModelNetwork). pathLength (pathIn net (net .start))) recorded-is;
-        };
-      }
+          counted = a ∙ counts-steering ns steering (y .count) (start-short .0) (start-short .1) same-steering;
+          start-long = l ∙ ap (λ (x : Walk). pathLength (pathOf x)) (sym (start-walk ∙ ap (told ns way) e)) ∙ ap (λ (net : ModelNetwork). pathLength (pathIn net (net .start))) recorded-is;
+        },
+      )

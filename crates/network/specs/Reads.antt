@@ -1,26 +1,29 @@
 -- What the reader answers.
 -- Assumes nothing.
 use mathlib.Core.Path.{_≡_}
-use mathlib.Core.Bool.{Bool}
+use mathlib.Core.Bool.{true}
 use mathlib.Core.List.{List}
 use Prim.Native.Nat.{ℕ, suc, _≤_, _<_}
 use lib.ListN.{length, getD, replicate}
-use Rattle.model.specs.Result.{Result, ok, refused}
+use Rattle.model.specs.Result.{Result, ok, refused, andThen}
 use Rattle.model.specs.Text.{Bytes, parts, lineEnd}
 use Rattle.model.specs.Network.{Network as ModelNetwork, totalBits, steers, steeringBits}
 use Rattle.model.specs.Path.{pathIn, pathLength}
-use Rattle.model.specs.NetworkText.{Draft, noLines, lineOf, addLine, readLines, readNetwork}
+use Rattle.model.specs.NetworkText.{Draft, noLines, lineOf, addLine, readLines, finish, readNetwork}
 use Rattle.path.specs.Layout.{nodesOf, wordWidth, wordBit, configOf}
 use Rattle.network.specs.declared.draft.Tally.{Tally}
 use Rattle.network.specs.declared.add.Added.{Added}
 use Rattle.network.specs.declared.add.Refusal.the-variants.{Nothing, Refused}
 use Rattle.network.specs.declared.reader.Lines.{Lines}
+use Rattle.network.specs.declared.reader.Ending.{Ending}
+use Rattle.network.specs.declared.reader.Ending.the-variants.{Refused as EndRefused, Recorded}
 use Rattle.network.specs.declared.reader.Network.{Network}
 use Rattle.network.specs.declared.reader.Verdict.{Verdict}
 use Rattle.network.specs.declared.reader.Verdict.the-variants.{Accepted, Refused as Rejected}
 use Rattle.network.specs.declared.reader.Reading.{Reading}
 use Rattle.network.specs.Store.{Small}
 use Rattle.network.specs.Draws.{Draws, Agrees, Tame, targetsOf, emptyTally}
+use Rattle.network.specs.Start.{StartFilled}
 
 -- ---- one line, and the lines in turn
 
@@ -68,6 +71,37 @@ pub record Filled (r : Network) : Type 0 where
   pub totals : r .tally .total ≡ totalBits (networkOf r .nodes)
   pub counted : r .«steering_count» ≡ length (steeringBits (networkOf r .nodes))
   pub start-long : r .«start_length» ≡ pathLength (pathIn (networkOf r) (networkOf r .start))
+
+-- ---- what follows the lines
+
+abbrev pub recordOf : List ℕ → List ℕ → List ℕ → List ℕ → Tally → ℕ → ℕ → Network
+recordOf ns bits known steering t count len = record { nodes = ns; bits = bits; known = known; steering = steering; tally = t; «steering_count» = count; «start_length» = len }
+
+-- an ending that agrees with the model's: the refusal, or the counts of the record
+abbrev pub EndsAs : List ℕ → List ℕ → List ℕ → List ℕ → Tally → Result ModelNetwork → Ending → Type 0
+EndsAs ns bits known steering t a (EndRefused number place) = a ≡ refused number place
+EndsAs ns bits known steering t a (Recorded count len) = (a ≡ ok (networkOf (recordOf ns bits known steering t count len))) × Filled (recordOf ns bits known steering t count len)
+
+-- behind the lines, which have an `out` line, the start bits are filled
+pub record Begun (ns bits known steering : List ℕ) (t : Tally) (d : Draft) (n : ℕ) : Type 0 where
+  pub bits₀ : List ℕ
+  pub known₀ : List ℕ
+  pub held : List ℕ
+  pub drawn : Draws ns bits₀ known₀ steering held t d n
+  pub fed : t .«has_out» ≡ true
+  pub filled : StartFilled bits₀ known₀ steering held (t .count) bits known
+
+abbrev pub StartWalked : List ℕ → List ℕ → List ℕ → List ℕ → Tally → Ending → Type 0
+StartWalked ns bits known steering t r = (d : Draft) (n : ℕ) → Begun ns bits known steering t d n → EndsAs ns bits known steering t (finish n d (d .feeds)) r
+
+abbrev pub finishOf : Result (ℕ × Draft) → Result ModelNetwork
+finishOf a = andThen a (λ r. finish (r .0) (r .1) (r .1 .feeds))
+
+abbrev pub LinesFinished : List ℕ → List ℕ → List ℕ → List ℕ → List ℕ → Lines → Ending → List ℕ → List ℕ → Type 0
+LinesFinished ns bits known steering held l r bits′ known′ =
+    (a : Result (ℕ × Draft)) → LinesAre ns bits known steering held a l → EndsAs ns bits′ known′ steering (l .tally) (finishOf a) r
+
+-- ---- the whole text
 
 -- the record beside a refusal
 abbrev pub noNetwork : Network

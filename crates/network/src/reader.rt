@@ -17,11 +17,12 @@ use path::places::path_length;
 use path::walk::Walked;
 use path::walk::find_path;
 ghost use mathlib.Core.Path.{_≡_};
-ghost use Prim.Native.Nat.{_≤_};
+ghost use Prim.Native.Nat.{ℕ, _≤_};
 ghost use lib.ListN.{length};
-ghost use Rattle.model.specs.NetworkText.{noLines};
+ghost use Rattle.model.specs.Result.{Result};
+ghost use Rattle.model.specs.NetworkText.{Draft, noLines};
 ghost use Rattle.network.specs.Draws.{Draws, Drafted, emptyTally};
-ghost use Rattle.network.specs.Reads.{LineAdded, LinesRead, noNetwork, IsReading};
+ghost use Rattle.network.specs.Reads.{LineAdded, LinesAre, LinesRead, Begun, StartWalked, LinesFinished, noNetwork, IsReading};
 
 // The record of a network; its last two counts are of the distinct steering bits and of the bits of the start's path.
 pub struct Network {
@@ -50,6 +51,12 @@ pub struct Lines {
     pub refusal: Refusal,
     pub tally: Tally,
     pub next: usize,
+}
+
+// What follows the lines: a refusal, or the record's last two counts.
+pub enum Ending {
+    Refused(usize, usize),
+    Recorded(usize, usize),
 }
 
 fn answer(refusal: Refusal, tally: Tally) -> Added
@@ -89,54 +96,6 @@ fn add_line(
     }
 }
 
-// The lines of a text of at most 16,384 bytes, from the empty draft on.
-fn read_lines(
-    text: &[u8],
-    nodes: &mut Nodes,
-    bits: &mut Words,
-    known: &mut Words,
-    steering: &mut Words,
-    held: &mut [u16; 129],
-    empty: Tally,
-) -> Lines
-    requires { ⌜ (length (now text) ≤ 16384) × Draws (now nodes) (now bits) (now known) (now steering) (now held) empty noLines 1 ⌝ }
-    ensures { λ r. ⌜ LinesRead (now (text .entry)) r (now (nodes .exit)) (now (bits .exit)) (now (known .exit)) (now (steering .exit)) (now (held .exit)) ⌝ }
-{
-    let mut tally = empty;
-    let mut at: usize = 0;
-    let mut n: usize = 1;
-    while at < text.len() {
-        let end = text::end_of(text, at, b'\n');
-        if end == text.len() {
-            return Lines {
-                refusal: Refusal::Refused(1, n),
-                tally,
-                next: n,
-            };
-        }
-        let added = add_line(nodes, bits, known, steering, held, tally, &text[at..end], n);
-        let refusal = added.refusal;
-        tally = added.tally;
-        match refusal {
-            Refusal::Refused(number, place) => {
-                return Lines {
-                    refusal: Refusal::Refused(number, place),
-                    tally,
-                    next: n,
-                };
-            }
-            Refusal::Nothing => {}
-        }
-        at = end + 1;
-        n += 1;
-    }
-    Lines {
-        refusal: Refusal::Nothing,
-        tally,
-        next: n,
-    }
-}
-
 fn empty_tally() -> Tally
     ensures { λ r. ⌜ r ≡ emptyTally ⌝ }
 {
@@ -150,6 +109,51 @@ fn empty_tally() -> Tally
         target_write: [0; 4],
         target_bits: [0; 4],
     }
+}
+
+fn left(refusal: Refusal, tally: Tally, next: usize) -> Lines
+    ensures { λ r. ⌜ (r .refusal ≡ refusal) × (r .tally ≡ tally) × (r .next ≡ next) ⌝ }
+{
+    Lines {
+        refusal,
+        tally,
+        next,
+    }
+}
+
+// The lines of a text of at most 16,384 bytes, from the empty draft on.
+fn read_lines(
+    text: &[u8],
+    nodes: &mut Nodes,
+    bits: &mut Words,
+    known: &mut Words,
+    steering: &mut Words,
+    held: &mut [u16; 129],
+) -> Lines
+    requires { ⌜ (length (now text) ≤ 16384) × Draws (now nodes) (now bits) (now known) (now steering) (now held) emptyTally noLines 1 ⌝ }
+    ensures { λ r. ⌜ LinesRead (now (text .entry)) r (now (nodes .exit)) (now (bits .exit)) (now (known .exit)) (now (steering .exit)) (now (held .exit)) ⌝ }
+{
+    let mut tally = empty_tally();
+    let mut at: usize = 0;
+    let mut n: usize = 1;
+    while at < text.len() {
+        let end = text::end_of(text, at, b'\n');
+        if end == text.len() {
+            return left(Refusal::Refused(1, n), tally, n);
+        }
+        let added = add_line(nodes, bits, known, steering, held, tally, &text[at..end], n);
+        let refusal = added.refusal;
+        tally = added.tally;
+        match refusal {
+            Refusal::Refused(number, place) => {
+                return left(Refusal::Refused(number, place), tally, n);
+            }
+            Refusal::Nothing => {}
+        }
+        at = end + 1;
+        n += 1;
+    }
+    left(Refusal::Nothing, tally, n)
 }
 
 // A refusal, with an empty record.
@@ -168,6 +172,55 @@ fn rejected(number: usize, place: usize) -> Reading
             start_length: 0,
         },
     }
+}
+
+// The path of the start, whose bits are filled: 9, or the record's counts.
+fn walk_start<'a>(
+    nodes: &'a Nodes,
+    bits: &'a Words,
+    known: &'a Words,
+    steering: &'a Words,
+    t: Tally,
+) -> Ending
+    requires { ⌜ ((d : Draft) × ((n : ℕ) × Begun (now nodes) (now bits) (now known) (now steering) t d n)) ⌝ }
+    ensures { λ r. ⌜ StartWalked (now (nodes .entry)) (now (bits .entry)) (now (known .entry)) (now (steering .entry)) t r ⌝ }
+{
+    let mut way = [0u16; 128];
+    match find_path(nodes, bits, known, t.out, &mut way) {
+        Walked::Stop(m) => Ending::Refused(9, m),
+        Walked::Path(n) => {
+            let count = steering_count(nodes, steering, t.count);
+            let length = path_length(nodes, &way, n);
+            Ending::Recorded(count, length)
+        }
+    }
+}
+
+// What follows the lines: their refusal, 4 without an `out` line, or the start.
+fn finish<'a>(
+    nodes: &'a Nodes,
+    bits: &mut Words,
+    known: &mut Words,
+    steering: &'a Words,
+    held: &'a [u16; 129],
+    lines: Lines,
+) -> Ending
+    requires { ⌜ ((a : Result (ℕ × Draft)) × LinesAre (now nodes) (now bits) (now known) (now steering) (now held) a lines) ⌝ }
+    ensures { λ r. ⌜ LinesFinished (now (nodes .entry)) (now (bits .entry)) (now (known .entry)) (now (steering .entry)) (now (held .entry)) lines r (now (bits .exit)) (now (known .exit)) ⌝ }
+{
+    let refusal = lines.refusal;
+    match refusal {
+        Refusal::Refused(number, place) => {
+            return Ending::Refused(number, place);
+        }
+        Refusal::Nothing => {}
+    }
+    let t = lines.tally;
+    if !t.has_out {
+        return Ending::Refused(4, lines.next);
+    }
+    fill_start(bits, known, steering, held, t.count);
+    walk_start(nodes, bits, known, steering, t)
 }
 
 // A network text: the record, or one refusal, 1 to 9.
@@ -189,38 +242,22 @@ pub fn read_network(text: &[u8]) -> Reading
         &mut known,
         &mut steering,
         &mut held,
-        empty_tally(),
     );
-    let refusal = lines.refusal;
-    match refusal {
-        Refusal::Refused(number, place) => {
-            return rejected(number, place);
-        }
-        Refusal::Nothing => {}
-    }
     let tally = lines.tally;
-    if !tally.has_out {
-        return rejected(4, lines.next);
-    }
-    fill_start(&mut bits, &mut known, &steering, &held, tally.count);
-    let mut way = [0u16; 128];
-    match find_path(&nodes, &bits, &known, tally.out, &mut way) {
-        Walked::Stop(m) => rejected(9, m),
-        Walked::Path(n) => {
-            let count = steering_count(&nodes, &steering, tally.count);
-            let length = path_length(&nodes, &way, n);
-            Reading {
-                verdict: Verdict::Accepted,
-                network: Network {
-                    nodes,
-                    bits,
-                    known,
-                    steering,
-                    tally,
-                    steering_count: count,
-                    start_length: length,
-                },
-            }
-        }
+    let ending = finish(&nodes, &mut bits, &mut known, &steering, &held, lines);
+    match ending {
+        Ending::Refused(number, place) => rejected(number, place),
+        Ending::Recorded(count, length) => Reading {
+            verdict: Verdict::Accepted,
+            network: Network {
+                nodes,
+                bits,
+                known,
+                steering,
+                tally,
+                steering_count: count,
+                start_length: length,
+            },
+        },
     }
 }
