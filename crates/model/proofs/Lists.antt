@@ -116,11 +116,6 @@ drop-map f zero l = refl
 drop-map f (suc n) [] = refl
 drop-map f (suc n) (x ∷ l) = drop-map f n l
 
-pub zero-at : (n i : ℕ) → getD {A = ℕ} (replicate n 0) i 0 ≡ 0
-zero-at zero i = refl
-zero-at (suc n) zero = refl
-zero-at (suc n) (suc i) = zero-at n i
-
 pub getD-map-some : (l : List Bool) (x : ℕ) → x < length l → getD (map some l) x none ≡ some (getD l x false)
 getD-map-some [] x h = absurd (not-suc-le-zero h)
 getD-map-some (b ∷ l) zero h = refl

@@ -13,7 +13,7 @@ use Rattle.model.specs.Result.{ok, refused}
 use Rattle.model.specs.Text.{Trit}
 use Rattle.model.specs.Network.{Node, lenOf, totalBits, tabulate, steersAt, heldOr, Held}
 use Rattle.model.specs.NetworkText.{Draft, hasOut, outside, addNode, withNode, isHeld, isSome}
-use Rattle.model.proofs.Lists.{tabulate-cong, tabulate-snoc, true-false}
+use Rattle.model.proofs.Lists.{tabulate-cong, true-false}
 use Rattle.model.proofs.LineForms.{GoodForm}
 use Rattle.model.proofs.Reading.{Sound, Stage, no-out, behind-out, sound-node, total-more}
 use Rattle.path.specs.Layout.{nodeAt, nodesOf, tritsOf}
@@ -23,7 +23,8 @@ use Rattle.network_text.specs.declared.NodeData.the-variants.{Segment, Multiple
 use Rattle.network_text.specs.Line.{nodeFor, SmallNode}
 use Rattle.network.specs.Store.{Row, RowStored, Marked}
 use Rattle.network.specs.Draws.{Draws, targetAt, targetsOf}
-use Rattle.network.proofs.Nodes.{by-count, node-by-fields}
+use Rattle.network_text.proofs.Bounds.{by-count}
+use Rattle.network.proofs.Nodes.{node-by-fields}
 use Rattle.network.proofs.Drawing.{steers-more, drawn-count, drawn-targets, kept-node}
 
 -- ---- the refusals

@@ -1,14 +1,14 @@
 // One line more: each kind of line, with its refusals in order.
 use crate::bad::first_bad;
 use crate::draft::Tally;
-use crate::draft::bits_of;
 use crate::draft::flag_of;
-use crate::draft::is_outside;
 use crate::draft::mark_steering;
 use crate::draft::narrow;
 use crate::draft::row_of;
 use crate::draft::store_row;
 use network_text::NodeData;
+use network_text::node::bits_of;
+use network_text::node::is_outside;
 ghost use lib.ListN.{length};
 ghost use mathlib.Core.Path.{_≡_};
 ghost use Rattle.network_text.specs.Line.{SmallNode};

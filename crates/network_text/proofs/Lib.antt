@@ -1,2 +1,3 @@
--- Laws of the definitions, for this crate's proofs.
+-- Laws of the definitions, for this crate's proofs and for its callers.
 pub mod Lines
+pub mod Bounds

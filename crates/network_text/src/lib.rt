@@ -1,4 +1,6 @@
 // One parsed line of a network text.
+pub mod node;
+
 ghost use mathlib.Core.Bool.{cond};
 ghost use mathlib.Core.List.{[]};
 ghost use mathlib.Core.Path.{_≡_};

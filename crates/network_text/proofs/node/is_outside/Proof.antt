@@ -1,9 +1,9 @@
--- `network::draft::is_outside` meets its contract.
+-- `network_text::node::is_outside` meets its contract.
 -- Assumes nothing.
-use Rattle.network.proofs.Nodes.{outside-from, outside-short, outside-long}
+use Rattle.network_text.proofs.Bounds.{outside-from, outside-short, outside-long}
 use borrow.Author.Needs.{needs}
-use Rattle.network.proofs.draft.is_outside.Statement.{statement}
-use Rattle.network.proofs.draft.is_outside.Tie as tie
+use Rattle.network_text.proofs.node.is_outside.Statement.{statement}
+use Rattle.network_text.proofs.node.is_outside.Tie as tie
 
 enum-known-x : tie.Need-enum-known-x
 enum-known-x c = search needs

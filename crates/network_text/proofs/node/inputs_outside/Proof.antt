@@ -1,9 +1,9 @@
--- `network::draft::inputs_outside` meets its contract.
+-- `network_text::node::inputs_outside` meets its contract.
 -- Assumes nothing.
 use borrow.Author.Needs.{needs}
-use Rattle.network.proofs.Nodes.{any-first, any-second, none-of-two, any-third, none-of-three, any-last}
-use Rattle.network.proofs.draft.inputs_outside.Statement.{statement}
-use Rattle.network.proofs.draft.inputs_outside.Tie as tie
+use Rattle.network_text.proofs.Bounds.{any-first, any-second, none-of-two, any-third, none-of-three, any-last}
+use Rattle.network_text.proofs.node.inputs_outside.Statement.{statement}
+use Rattle.network_text.proofs.node.inputs_outside.Tie as tie
 
 returns : tie.Need-returns
 returns c = any-first (c .before .args .n) (c .before .args .count) (c .before .args .a) (c .before .args .b) (c .before .args .c) (c .before .args .d) (search needs) (search needs) (search needs)
