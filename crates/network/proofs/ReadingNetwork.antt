@@ -9,7 +9,7 @@ use native.Mathlib.Omega.{arith}
 use lib.ListN.{length, getD, take, replicate, length-replicate}
 use lib.Dec.{eqb}
 use borrow.Author.Tests.{lt-ltb, le-ltb}
-use Rattle.model.specs.Result.{Result, ok, refused, refuseIf, andThen}
+use Rattle.model.specs.Result.{Result, ok, refused, refuseIf}
 use Rattle.model.specs.Text.{Bytes, parts, lineEnd}
 use Rattle.model.specs.Network.{Node, Config, Target, Network as ModelNetwork, totalBits, steers, heldOr, startOf}
 use Rattle.model.specs.Path.{Walk, walk, pathOf, pathIn, pathLength}

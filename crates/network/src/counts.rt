@@ -6,7 +6,6 @@ use path::layout::segment_len;
 use path::words::bit_at;
 ghost use mathlib.Core.Path.{_≡_};
 ghost use Prim.Native.Nat.{_≤_};
-ghost use lib.ListN.{length};
 ghost use Rattle.path.specs.Layout.{wordWidth};
 ghost use Rattle.network.specs.Draws.{Short};
 ghost use Rattle.network.specs.Counts.{countIn, countFrom};

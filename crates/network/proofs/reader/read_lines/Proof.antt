@@ -6,7 +6,6 @@ use borrow.Author.Needs.{needs}
 use native.Mathlib.Omega.{arith}
 use lib.ListN.{length}
 use Prim.Native.Nat.{_+_, _-_, _≤_, _<_}
-use mathlib.Core.Path.{refl}
 use Rattle.network.proofs.reader.read_lines.Statement.{statement}
 use Rattle.network.proofs.reader.read_lines.Tie as tie
 
