@@ -13,7 +13,7 @@ use Rattle.model.specs.Result.{ok, refused}
 use Rattle.model.specs.Text.{Trit}
 use Rattle.model.specs.Network.{Node, lenOf, totalBits, tabulate, steersAt, heldOr, Held}
 use Rattle.model.specs.NetworkText.{Draft, hasOut, outside, addNode, withNode, isHeld, isSome}
-use Rattle.model.proofs.Lists.{tabulate-cong, true-false}
+use Rattle.model.proofs.Lists.{tabulate-cong, true-false, tabulate-snoc}
 use Rattle.model.proofs.LineForms.{GoodForm}
 use Rattle.model.proofs.Reading.{Sound, Stage, no-out, behind-out, sound-node, total-more}
 use Rattle.path.specs.Layout.{nodeAt, nodesOf, tritsOf}

@@ -4,7 +4,7 @@ use Prim.Native.Nat.{ℕ}
 use mathlib.Core.Path.{subst}
 use lib.ListN.{length-replicate}
 use borrow.Author.Needs.{needs}
-use Rattle.path.specs.Answers.{Holds}
+use Rattle.path.specs.Answers.{WalkHeld}
 use Rattle.network.proofs.ReadingNetwork.{start-walkable, start-short, start-stops, start-recorded}
 use Rattle.network.proofs.reader.walk_start.Statement.{statement}
 use Rattle.network.proofs.reader.walk_start.Tie as tie
@@ -24,7 +24,7 @@ steering-count-requires c κs = start-short _ _ _ _ _ _ _ (c .before .before .be
 path-length-requires : tie.Need-path-length-requires
 path-length-requires c κs =
     let at-n = c .before .before .before in
-    subst (Holds _ _) (at-n .n .given .1) (at-n .before .before .find-path .ensures .holds)
+    subst (WalkHeld _ _) (at-n .n .given .1) (at-n .before .before .find-path .ensures .holds)
 
 returns : tie.Need-returns
 returns c = λ d n b. start-stops _ _ _ _ _ d n b _ _ (c .before .before .before .find-path .ensures) _ (c .before .m .given .1)
