@@ -36,15 +36,15 @@ pub fn mark_path(way: &Way, n: usize, marks: &mut Marks)
 }
 
 // The indices of the steering bits of segment s go behind the first n.
-fn indices_in(segments: &[usize; 6], k: usize, s: usize, order: &mut [usize; 6], n: usize) -> usize
-    requires { ⌜ (k ≤ 6) × (length (now order) ≡ 6) × (n ≤ 6) ⌝ }
+fn indices_in(segments: &[u16; 6], k: usize, s: usize, order: &mut [usize; 6], n: usize) -> usize
+    requires { ⌜ (k ≤ 6) × (s ≤ 128) × (length (now order) ≡ 6) × (n ≤ 6) ⌝ }
     requires { ⌜ Room (now segments) k s n ⌝ }
     ensures { λ r. ⌜ IndicesBehind (now (segments .entry)) k s (now (order .entry)) n (now (order .exit)) r ⌝ }
 {
     let mut m = n;
     let mut j: usize = 0;
     while j < k {
-        if segments[j] == s {
+        if segments[j] == s as u16 {
             order[m] = j;
             m += 1;
         }
@@ -56,7 +56,7 @@ fn indices_in(segments: &[usize; 6], k: usize, s: usize, order: &mut [usize; 6],
 // The same; a segment without steering bits, as its word of them tells, needs no look at the list.
 fn indices_at<'a>(
     steering: &'a Words,
-    segments: &'a [usize; 6],
+    segments: &'a [u16; 6],
     k: usize,
     s: usize,
     order: &mut [usize; 6],
@@ -78,7 +78,7 @@ pub fn order_of<'a>(
     way: &'a Way,
     n: usize,
     steering: &'a Words,
-    segments: &'a [usize; 6],
+    segments: &'a [u16; 6],
     k: usize,
     order: &mut [usize; 6],
 ) -> usize
@@ -132,7 +132,7 @@ fn digit_off(marks: &Marks, s: usize, x: usize, j: usize) -> usize
 }
 
 // The number of setting x with 0 in the steering bits of marked segments.
-pub fn base_of<'a>(marks: &'a Marks, segments: &'a [usize; 6], k: usize, x: usize) -> usize
+pub fn base_of<'a>(marks: &'a Marks, segments: &'a [u16; 6], k: usize, x: usize) -> usize
     requires { ⌜ (k ≤ 6) × Within (now segments) k ⌝ }
     ensures { λ r. ⌜ BaseBy (now (marks .entry)) (now (segments .entry)) k x r ⌝ }
 {
@@ -140,7 +140,8 @@ pub fn base_of<'a>(marks: &'a Marks, segments: &'a [usize; 6], k: usize, x: usiz
     let mut j = k;
     while 0 < j {
         j -= 1;
-        base = base * 3 + digit_off(marks, segments[j], x, j);
+        let s = segments[j] as usize;
+        base = base * 3 + digit_off(marks, s, x, j);
     }
     base
 }

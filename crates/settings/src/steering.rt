@@ -19,8 +19,8 @@ ghost use Rattle.settings.specs.Steering.{bitsOf, steeringOf, markedIn, 
 // its steering bits, by segment and bit, with their count, the width of a setting.
 pub struct Problem {
     pub tally: Tally,
-    pub segments: [usize; 6],
-    pub places: [usize; 6],
+    pub segments: [u16; 6],
+    pub places: [u16; 6],
     pub width: usize,
 }
 
@@ -29,19 +29,19 @@ fn list_segment(
     word: Word,
     len: usize,
     s: usize,
-    segments: &mut [usize; 6],
-    places: &mut [usize; 6],
+    segments: &mut [u16; 6],
+    places: &mut [u16; 6],
     n: usize,
 ) -> usize
-    requires { ⌜ (len ≤ wordWidth) × (n + length (markedIn word s 0 len) ≤ 6) × Pairs (now segments) (now places) ⌝ }
+    requires { ⌜ (s ≤ 128) × (len ≤ wordWidth) × (n + length (markedIn word s 0 len) ≤ 6) × Pairs (now segments) (now places) ⌝ }
     ensures { λ r. ⌜ Behind (now (segments .entry)) (now (places .entry)) n (markedIn word s 0 len) (now (segments .exit)) (now (places .exit)) r ⌝ }
 {
     let mut m = n;
     let mut b: usize = 0;
     while b < len {
         if bit_at(word, b) == 1 {
-            segments[m] = s;
-            places[m] = b;
+            segments[m] = s as u16;
+            places[m] = b as u16;
             m += 1;
         }
         b += 1;
@@ -54,8 +54,8 @@ fn list_steering<'a>(
     nodes: &'a Nodes,
     steering: &'a Words,
     count: usize,
-    segments: &mut [usize; 6],
-    places: &mut [usize; 6],
+    segments: &mut [u16; 6],
+    places: &mut [u16; 6],
 ) -> usize
     requires { ⌜ Steered (now nodes) (now steering) count × Pairs (now segments) (now places) ⌝ }
     ensures { λ r. ⌜ (bitsOf (now (segments .exit)) (now (places .exit)) r ≡ steeringBits (nodesOf (now (nodes .entry)) count)) × (r ≤ 6) ⌝ }
@@ -74,8 +74,8 @@ pub fn problem_of<'a>(nodes: &'a Nodes, steering: &'a Words, tally: Tally) -> Pr
     requires { ⌜ Steered (now nodes) (now steering) (tally .count) ⌝ }
     ensures { λ r. ⌜ ProblemOf (now (nodes .entry)) tally r ⌝ }
 {
-    let mut segments = [0usize; 6];
-    let mut places = [0usize; 6];
+    let mut segments = [0u16; 6];
+    let mut places = [0u16; 6];
     let width = list_steering(nodes, steering, tally.count, &mut segments, &mut places);
     Problem {
         tally,
@@ -86,14 +86,14 @@ pub fn problem_of<'a>(nodes: &'a Nodes, steering: &'a Words, tally: Tally) -> Pr
 }
 
 // The words of the steering segments become 0.
-fn clear_words(bits: &mut Words, known: &mut Words, segments: &[usize; 6], k: usize)
+fn clear_words(bits: &mut Words, known: &mut Words, segments: &[u16; 6], k: usize)
     requires { ⌜ (k ≤ 6) × ConfigSized (now bits) (now known) ⌝ }
     requires { ⌜ Within (now segments) k ⌝ }
     ensures { λ _. ⌜ Cleared (now (segments .entry)) k (now (bits .exit)) (now (known .exit)) ⌝ }
 {
     let mut j: usize = 0;
     while j < k {
-        let s = segments[j];
+        let s = segments[j] as usize;
         bits[s] = 0;
         known[s] = 0;
         j += 1;
@@ -124,7 +124,9 @@ pub fn set_words(bits: &mut Words, known: &mut Words, problem: Problem, x: usize
     let mut y = x;
     let mut j: usize = 0;
     while j < problem.width {
-        set_digit(bits, known, problem.segments[j], problem.places[j], y % 3);
+        let s = problem.segments[j] as usize;
+        let b = problem.places[j] as usize;
+        set_digit(bits, known, s, b, y % 3);
         y = y / 3;
         j += 1;
     }
@@ -150,8 +152,9 @@ pub fn setting_number<'a>(bits: &'a Words, known: &'a Words, problem: Problem) -
     let mut j = problem.width;
     while 0 < j {
         j -= 1;
-        let s = problem.segments[j];
-        n = n * 3 + digit_at(bits[s], known[s], problem.places[j]);
+        let s = problem.segments[j] as usize;
+        let b = problem.places[j] as usize;
+        n = n * 3 + digit_at(bits[s], known[s], b);
     }
     n
 }

@@ -19,14 +19,17 @@ loop-holds c = based-none _ _ _ (c .pre .0) _
 sub-j : tie.Need-sub-j Inv-loop μ-loop
 sub-j c = search needs
 
+mul-s : tie.Need-mul-s Inv-loop μ-loop
+mul-s c = omega (arith, c .before .before .pre .0)
+
+element-copy-out-s : tie.Need-element-copy-out-s Inv-loop μ-loop
+element-copy-out-s c = omega (arith, c .before .before .pre .0)
+
+cast-s : tie.Need-cast-s Inv-loop μ-loop
+cast-s c = omega (arith, c .before .before .before .pre .1 (c .before .before .loop .j - 1) (omega arith))
+
 mul-base : tie.Need-mul-base Inv-loop μ-loop
-mul-base c = omega (arith, based-small _ _ _ (c .before .before .pre .0) _ _ _ (c .before .loop .inv))
-
-mul-digit-off : tie.Need-mul-digit-off Inv-loop μ-loop
-mul-digit-off c = omega (arith, c .before .before .pre .0)
-
-element-copy-out-digit-off : tie.Need-element-copy-out-digit-off Inv-loop μ-loop
-element-copy-out-digit-off c = omega (arith, c .before .before .pre .0)
+mul-base c = omega (arith, based-small _ _ _ (c .before .before .before .pre .0) _ _ _ (c .before .before .loop .inv))
 
 digit-off-requires : tie.Need-digit-off-requires Inv-loop μ-loop
 digit-off-requires c κs =
@@ -57,9 +60,10 @@ base-of-spec =
     μ-loop
     loop-holds
     sub-j
+    mul-s
+    element-copy-out-s
+    cast-s
     mul-base
-    mul-digit-off
-    element-copy-out-digit-off
     digit-off-requires
     add-base
     loop-less

@@ -15,13 +15,16 @@ abbrev μ-loop : tie.MeasureT-loop
 μ-loop segments k s order₀ n m₀ j₀ order m j = k - j
 
 loop-holds : tie.Need-loop-holds Inv-loop μ-loop
-loop-holds c = indexing-none _ _ _ _ _ (c .pre .0 .1) (c .pre .1)
+loop-holds c = indexing-none _ _ _ _ _ (c .pre .0 .2) (c .pre .1)
 
 mul-if1 : tie.Need-mul-if1 Inv-loop μ-loop
 mul-if1 c = omega (arith, c .before .before .pre .0 .0)
 
 element-copy-out-if1 : tie.Need-element-copy-out-if1 Inv-loop μ-loop
 element-copy-out-if1 c = omega (arith, c .before .before .pre .0 .0)
+
+cast-if1 : tie.Need-cast-if1 Inv-loop μ-loop
+cast-if1 c = omega (arith, c .before .before .before .pre .0 .1)
 
 mul-order : tie.Need-mul-order Inv-loop μ-loop
 mul-order c = omega (arith, indexing-room _ _ _ _ _ _ _ _ (c .before .before .loop-test .taken) (c .before .before .before .loop .inv) (c .if1 .taken))
@@ -59,6 +62,7 @@ indices-in-spec =
     loop-holds
     mul-if1
     element-copy-out-if1
+    cast-if1
     mul-order
     element-write-order
     add-m

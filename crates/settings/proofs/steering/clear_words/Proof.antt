@@ -23,6 +23,9 @@ mul-s c = search needs
 element-copy-out-s : tie.Need-element-copy-out-s Inv-loop μ-loop
 element-copy-out-s c = search needs
 
+cast-s : tie.Need-cast-s Inv-loop μ-loop
+cast-s c = omega (arith, c .before .before .before .pre .1 (c .before .before .loop .j) (c .before .loop-test .taken))
+
 mul-bits : tie.Need-mul-bits Inv-loop μ-loop
 mul-bits c = omega (arith, c .before .before .before .pre .1 (c .before .before .loop .j) (c .before .loop-test .taken))
 
@@ -56,6 +59,7 @@ clear-words-spec =
     loop-holds
     mul-s
     element-copy-out-s
+    cast-s
     mul-bits
     element-write-bits
     mul-known

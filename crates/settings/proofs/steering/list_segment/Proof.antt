@@ -15,16 +15,22 @@ abbrev μ-loop : tie.MeasureT-loop
 μ-loop word len s segments₀ places₀ n m₀ b₀ segments places m b = len - b
 
 loop-holds : tie.Need-loop-holds Inv-loop μ-loop
-loop-holds c = marking-none _ _ _ _ _ _ (c .pre .0) (c .pre .1) (c .pre .2)
+loop-holds c = marking-none _ _ _ _ _ _ (c .pre .1) (c .pre .2) (c .pre .3)
 
 bit-at-requires : tie.Need-bit-at-requires Inv-loop μ-loop
 bit-at-requires c κs = search needs
+
+cast-segments : tie.Need-cast-segments Inv-loop μ-loop
+cast-segments c = omega (arith, c .before .before .before .before .pre .0)
 
 mul-segments : tie.Need-mul-segments Inv-loop μ-loop
 mul-segments c = omega (arith, marking-room _ _ _ _ _ _ _ _ _ _ (c .before .before .loop-test .taken) (c .before .before .before .loop .inv) _ (c .before .bit-at .ensures) (c .if1 .taken))
 
 element-write-segments : tie.Need-element-write-segments Inv-loop μ-loop
 element-write-segments c = omega (arith, marking-room _ _ _ _ _ _ _ _ _ _ (c .before .before .loop-test .taken) (c .before .before .before .loop .inv) _ (c .before .bit-at .ensures) (c .if1 .taken))
+
+cast-places : tie.Need-cast-places Inv-loop μ-loop
+cast-places c = omega (arith, c .before .before .before .before .pre .1)
 
 mul-places : tie.Need-mul-places Inv-loop μ-loop
 mul-places c = omega (arith, marking-room _ _ _ _ _ _ _ _ _ _ (c .before .before .loop-test .taken) (c .before .before .before .loop .inv) _ (c .before .bit-at .ensures) (c .if1 .taken))
@@ -62,8 +68,10 @@ list-segment-spec =
     μ-loop
     loop-holds
     bit-at-requires
+    cast-segments
     mul-segments
     element-write-segments
+    cast-places
     mul-places
     element-write-places
     add-m

@@ -31,7 +31,7 @@ list-segment-requires c κs =
     let l = c .before .before .before .before .before .loop .inv in
     let t = c .before .before .before .before .loop-test .taken in
     let e = c .before .before .segment-len .ensures in
-    (gathering-short _ _ _ p _ _ _ _ l _ t e, gathering-room _ _ _ p _ _ _ _ l _ t e, l .sized)
+    (omega (arith, p .most), gathering-short _ _ _ p _ _ _ _ l _ t e, gathering-room _ _ _ p _ _ _ _ l _ t e, l .sized)
 
 add-s : tie.Need-add-s Inv-loop μ-loop
 add-s c = omega (arith, c .before .before .before .before .before .before .before .pre .0 .most)

@@ -19,17 +19,23 @@ clear-words-requires c κs = ((c .before .before .before .before .pre .0 .few, c
 loop-holds : tie.Need-loop-holds Inv-loop μ-loop
 loop-holds c = setting-none _ _ _ _ (c .clear-words .ensures)
 
-mul-set-digit : tie.Need-mul-set-digit Inv-loop μ-loop
-mul-set-digit c = omega (arith, c .before .before .before .before .before .before .before .before .before .pre .0 .few)
+mul-s : tie.Need-mul-s Inv-loop μ-loop
+mul-s c = omega (arith, c .before .before .before .before .before .before .before .pre .0 .few)
 
-element-copy-out-set-digit : tie.Need-element-copy-out-set-digit Inv-loop μ-loop
-element-copy-out-set-digit c = omega (arith, c .before .before .before .before .before .before .before .before .before .pre .0 .few)
+element-copy-out-s : tie.Need-element-copy-out-s Inv-loop μ-loop
+element-copy-out-s c = omega (arith, c .before .before .before .before .before .before .before .pre .0 .few)
 
-mul-set-digit-2 : tie.Need-mul-set-digit-2 Inv-loop μ-loop
-mul-set-digit-2 c = omega (arith, c .before .before .before .before .before .before .before .before .before .before .pre .0 .few)
+cast-s : tie.Need-cast-s Inv-loop μ-loop
+cast-s c = omega (arith, c .before .before .before .before .before .before .before .before .pre .0 .within (c .before .before .loop .j) (c .before .loop-test .taken))
 
-element-copy-out-set-digit-2 : tie.Need-element-copy-out-set-digit-2 Inv-loop μ-loop
-element-copy-out-set-digit-2 c = omega (arith, c .before .before .before .before .before .before .before .before .before .before .pre .0 .few)
+mul-b : tie.Need-mul-b Inv-loop μ-loop
+mul-b c = omega (arith, c .before .before .before .before .before .before .before .before .pre .0 .few)
+
+element-copy-out-b : tie.Need-element-copy-out-b Inv-loop μ-loop
+element-copy-out-b c = omega (arith, c .before .before .before .before .before .before .before .before .pre .0 .few)
+
+cast-b : tie.Need-cast-b Inv-loop μ-loop
+cast-b c = omega (arith, c .before .before .before .before .before .before .before .before .before .pre .0 .inside (c .before .before .before .loop .j) (c .before .before .loop-test .taken))
 
 set-digit-requires : tie.Need-set-digit-requires Inv-loop μ-loop
 set-digit-requires c κs = (omega arith, c .before .before .before .before .before .loop .inv .sized)
@@ -57,10 +63,12 @@ set-words-spec =
     μ-loop
     clear-words-requires
     loop-holds
-    mul-set-digit
-    element-copy-out-set-digit
-    mul-set-digit-2
-    element-copy-out-set-digit-2
+    mul-s
+    element-copy-out-s
+    cast-s
+    mul-b
+    element-copy-out-b
+    cast-b
     set-digit-requires
     add-j
     loop-less

@@ -26,26 +26,32 @@ mul-s c = omega (arith, c .before .before .pre .few)
 element-copy-out-s : tie.Need-element-copy-out-s Inv-loop μ-loop
 element-copy-out-s c = omega (arith, c .before .before .pre .few)
 
+cast-s : tie.Need-cast-s Inv-loop μ-loop
+cast-s c = omega (arith, c .before .before .before .pre .within (c .before .before .loop .j - 1) (omega arith))
+
+mul-b : tie.Need-mul-b Inv-loop μ-loop
+mul-b c = omega (arith, c .before .before .before .pre .few)
+
+element-copy-out-b : tie.Need-element-copy-out-b Inv-loop μ-loop
+element-copy-out-b c = omega (arith, c .before .before .before .pre .few)
+
+cast-b : tie.Need-cast-b Inv-loop μ-loop
+cast-b c = omega (arith, c .before .before .before .before .pre .inside (c .before .before .before .loop .j - 1) (omega arith))
+
 mul-n : tie.Need-mul-n Inv-loop μ-loop
 mul-n c = search needs
 
 mul-digit-at : tie.Need-mul-digit-at Inv-loop μ-loop
-mul-digit-at c = omega (arith, c .before .before .before .pre .within (c .before .before .loop .j - 1) (omega arith))
+mul-digit-at c = omega (arith, c .before .before .before .before .pre .within (c .before .before .before .loop .j - 1) (omega arith))
 
 element-copy-out-digit-at : tie.Need-element-copy-out-digit-at Inv-loop μ-loop
-element-copy-out-digit-at c = omega (arith, c .before .before .before .pre .within (c .before .before .loop .j - 1) (omega arith))
+element-copy-out-digit-at c = omega (arith, c .before .before .before .before .pre .within (c .before .before .before .loop .j - 1) (omega arith))
 
 mul-digit-at-2 : tie.Need-mul-digit-at-2 Inv-loop μ-loop
-mul-digit-at-2 c = omega (arith, c .before .before .before .before .pre .within (c .before .before .before .loop .j - 1) (omega arith))
+mul-digit-at-2 c = omega (arith, c .before .before .before .before .before .pre .within (c .before .before .before .before .loop .j - 1) (omega arith))
 
 element-copy-out-digit-at-2 : tie.Need-element-copy-out-digit-at-2 Inv-loop μ-loop
-element-copy-out-digit-at-2 c = omega (arith, c .before .before .before .before .pre .within (c .before .before .before .loop .j - 1) (omega arith))
-
-mul-digit-at-3 : tie.Need-mul-digit-at-3 Inv-loop μ-loop
-mul-digit-at-3 c = omega (arith, c .before .before .before .before .before .pre .few)
-
-element-copy-out-digit-at-3 : tie.Need-element-copy-out-digit-at-3 Inv-loop μ-loop
-element-copy-out-digit-at-3 c = omega (arith, c .before .before .before .before .before .pre .few)
+element-copy-out-digit-at-2 c = omega (arith, c .before .before .before .before .before .pre .within (c .before .before .before .before .loop .j - 1) (omega arith))
 
 digit-at-requires : tie.Need-digit-at-requires Inv-loop μ-loop
 digit-at-requires c κs = c .before .before .before .before .before .before .pre .inside (c .before .before .before .before .before .loop .j - 1) (omega arith)
@@ -75,13 +81,15 @@ setting-number-spec =
     sub-j
     mul-s
     element-copy-out-s
+    cast-s
+    mul-b
+    element-copy-out-b
+    cast-b
     mul-n
     mul-digit-at
     element-copy-out-digit-at
     mul-digit-at-2
     element-copy-out-digit-at-2
-    mul-digit-at-3
-    element-copy-out-digit-at-3
     digit-at-requires
     add-n
     loop-less
