@@ -71,7 +71,9 @@ fn keep_goals<'a>(
     let mut x: usize = 0;
     while x < end {
         let sets = table[i * 729 + x];
-        table[i * 729 + x] = goal_sets(nodes, steering, problem, rows, full, x, sets);
+        if sets != 0 {
+            table[i * 729 + x] = goal_sets(nodes, steering, problem, rows, full, x, sets);
+        }
         x += 1;
     }
 }

@@ -1,13 +1,14 @@
 -- `layers::keep::keep_goals` meets its contract. The invariant: slot i is filtered up to setting x.
 -- Assumes nothing.
-use Prim.Native.Nat.{_≤_, _-_}
-use mathlib.Core.Path.{_≡_, refl}
+use Prim.Native.Nat.{_+_, _≤_, _-_}
+use mathlib.Core.Path.{_≡_, refl, sym, ap, _∙_, subst}
+use mathlib.Core.Logic.{⊎-elim}
 use native.Mathlib.Omega.{arith}
 use lib.ListN.{length, length-set}
 use Rattle.search.specs.Moves.{allOf, sysOf}
 use Rattle.settings.specs.Rows.{RowsRight}
 use Rattle.settings.specs.Route.{Each}
-use Rattle.layers.proofs.SlotLaws.{Filtering, filtering-none, filtering-more, filtering-all}
+use Rattle.layers.proofs.SlotLaws.{Filtering, filtering-none, filtering-more, filtering-skip, filtering-all}
 use Rattle.layers.proofs.Bounds.{settings-count}
 use borrow.Author.Needs.{needs}
 use Rattle.layers.proofs.keep.keep_goals.Statement.{statement}
@@ -41,8 +42,8 @@ slice-read-sets c = search needs
 
 goal-sets-requires : tie.Need-goal-sets-requires Inv-loop μ-loop
 goal-sets-requires c κs =
-    let l = c .before .before .before .loop in
-    let p = c .before .before .before .before .before .before in
+    let l = c .before .before .before .before .loop in
+    let p = c .before .before .before .before .before .before .before in
     (p .pre .0, (l .inv .2, (omega arith, omega arith)))
 
 mul-table : tie.Need-mul-table Inv-loop μ-loop
@@ -65,14 +66,27 @@ loop-less c = search needs
 
 loop-again : tie.Need-loop-again Inv-loop μ-loop
 loop-again c =
-    let l = c .before .before .before .before .loop in
-    let p = c .before .before .before .before .before .before .before in
-    let g = c .goal-sets in (
-      search needs,
-      simp length-set (l .inv .1),
-      g .ensures .0,
-      λ net q all. filtering-more (sysOf net .goal) (p .args .i) (l .x) _ (l .table) (l .inv .3 net q all) (g .result) (omega arith) (omega arith) (omega arith) (g .ensures .1 net q all),
-    )
+    let l = c .before .before .before .loop in
+    let p = c .before .before .before .before .before .before in
+    let old = p .args .table .now in
+    ⊎-elim
+    (λ w. (
+      omega arith,
+      ap length (w .4) ∙ simp length-set (l .inv .1),
+      rw (w .3) (w .2 .ensures .0),
+      λ net q all.
+          subst (Filtering (sysOf net .goal) (p .args .i) (l .x + 1) old) (sym (w .4))
+          (filtering-more (sysOf net .goal) (p .args .i) (l .x) old (l .table) (l .inv .3 net q all) (w .2 .result) (omega arith) (omega arith) (omega arith) (w .2 .ensures .1 net q all)),
+    ))
+    (λ w. (
+      omega arith,
+      ap length (w .2) ∙ l .inv .1,
+      rw (w .1) (l .inv .2),
+      λ net q all.
+          subst (Filtering (sysOf net .goal) (p .args .i) (l .x + 1) old) (sym (w .2))
+          (filtering-skip (sysOf net .goal) (p .args .i) (l .x) old (l .table) (l .inv .3 net q all) (omega arith) (w .0 .left)),
+    ))
+    (c .if1 .came)
 
 same-length : tie.Need-same-length Inv-loop μ-loop
 same-length c = c .before .loop .inv .1
