@@ -14,7 +14,7 @@ use lib.ListN.{getD, set, replicate, length-replicate}
 use lib.Seq.{getD-set-same, getD-set-other}
 use Rattle.model.specs.Network.{Network}
 use Rattle.model.proofs.Accepted.{Accepted}
-use Rattle.model.proofs.Lists.{true-false, zero-at}
+use Rattle.model.proofs.Lists.{true-false, zero-at, and-false-right}
 use Rattle.path.specs.Layout.{wordBit}
 use Rattle.path.proofs.WordLaws.{zero-bit}
 use Rattle.network.proofs.Nodes.{wordBit-pow}
@@ -25,7 +25,7 @@ use Rattle.search.proofs.MoveLaws.{gain-within, land-within}
 use Rattle.layers.specs.Table.{inSlot, inSeen, layersOf, Others, Known, SlotKnown}
 use Rattle.layers.specs.Spreading.{Spread, Next, SetsIn, GoalIn, Met}
 use Rattle.layers.specs.Plans.{Starts}
-use Rattle.layers.proofs.SetLaws.{together-small, and-false}
+use Rattle.layers.proofs.SetLaws.{together-small}
 use Rattle.layers.proofs.SlotLaws.{slot-beyond, slot-other}
 
 -- the search has come to layer i: no layer so far has a goal, and the slots from i on are empty
@@ -42,7 +42,7 @@ pub record Forward (net : Network) (start i : ℕ) (tab seen : List ℕ) : Type 
 pub slot-empty : (tab : List ℕ) (j s : ℕ) → j < 16 → ((n : ℕ) → n < 11664 → getD tab n 0 ≡ 0) → inSlot tab j s ≡ false
 slot-empty tab j s less none =
     elim (decLt s 11664) [
-      | yes lt ↦ rw (none (j * 729 + s / 16) (omega arith), zero-bit (s % 16)) (and-false (ltb s 11664))
+      | yes lt ↦ rw (none (j * 729 + s / 16) (omega arith), zero-bit (s % 16)) (and-false-right (ltb s 11664))
       | no ge ↦ slot-beyond tab j s (omega arith)
     ]
 
@@ -83,7 +83,7 @@ module _ (net : Network) (start full : ℕ) (starts : Starts net start full) (ta
       goalless s e =
           let z : s ≡ start * 16 = eqb-true s (start * 16) e in
           let off : eqb (s % 16) (allOf (net .targets)) ≡ false = ne-eqb (s % 16) (allOf (net .targets)) (λ w. omega (arith, starts .all, starts .one)) in
-          rw off (and-false (ltb 0 (count net (s / 16))))
+          rw off (and-false-right (ltb 0 (count net (s / 16))))
 
       known : Known net (start * 16) tab 0
       known j s le e =

@@ -9,7 +9,7 @@ use native.Mathlib.Decide.{decLt}
 use borrow.Author.Tests.{ne-eqb, eqb-true}
 use lib.Bits.{bitAnd, bitOr, and-mask, or-lt}
 use lib.Dec.{eqb}
-use Rattle.model.proofs.Lists.{true-false, eqb-same, or-left, or-right, and-parts}
+use Rattle.model.proofs.Lists.{true-false, eqb-same, or-left, or-right, and-parts, and-false-right}
 use Rattle.path.specs.Layout.{wordBit}
 use Rattle.path.proofs.WordLaws.{zero-bit}
 use Rattle.network.proofs.Nodes.{wordBit-or, wordBit-pow, or-false}
@@ -90,10 +90,6 @@ pub record KeptBelow (sets g all n r : ℕ) : Type 0 where
 pub kept-none : (sets g all : ℕ) → KeptBelow sets g all 0 0
 kept-none sets g all = record { below = λ m lt. absurd (omega arith); beyond = λ m a b. zero-bit m }
 
-pub and-false : (a : Bool) → (a && false) ≡ false
-and-false true = refl
-and-false false = refl
-
 and-true : (a : Bool) → (a && true) ≡ a
 and-true true = refl
 and-true false = refl
@@ -105,7 +101,7 @@ kept-more sets g all n r q lt at p = record { below = below; beyond = λ m a b. 
     t = wordBit sets n && wordBit all (bitOr n g)
 
     other : (m : ℕ) → m < 16 → (n ≡ m → ⊥) → wordBit q m ≡ wordBit r m
-    other m b ne = at m b ∙ ap (λ (v : Bool). wordBit r m || (t && v)) (ne-eqb n m ne) ∙ ap (λ (v : Bool). wordBit r m || v) (and-false t) ∙ sym (or-false (wordBit r m))
+    other m b ne = at m b ∙ ap (λ (v : Bool). wordBit r m || (t && v)) (ne-eqb n m ne) ∙ ap (λ (v : Bool). wordBit r m || v) (and-false-right t) ∙ sym (or-false (wordBit r m))
 
     below : (m : ℕ) → m < n + 1 → wordBit q m ≡ (wordBit sets m && wordBit all (bitOr m g))
     below m less = elim (decLt m n) [

@@ -12,6 +12,7 @@ use lib.Bits.{bitOr, or-lt}
 use lib.ListN.{getD}
 use borrow.Author.Tests.{lt-ltb, eq-eqb, ne-eqb, eqb-true, eqb-false}
 use Rattle.model.specs.Network.{Network}
+use Rattle.model.proofs.Lists.{and-false-right}
 use Rattle.path.specs.Layout.{wordBit}
 use Rattle.path.proofs.WordLaws.{zero-bit}
 use Rattle.network.proofs.Nodes.{wordBit-or, wordBit-pow}
@@ -21,7 +22,6 @@ use Rattle.search.proofs.Forward.{someOf-same, someOf-snoc}
 use Rattle.settings.specs.Rows.{LandsOf}
 use Rattle.layers.specs.Table.{inSlot, Others}
 use Rattle.layers.specs.Keeping.{FilteredSets, enters, UnionOf}
-use Rattle.layers.proofs.SetLaws.{and-false}
 use Rattle.layers.proofs.SlotLaws.{slot-at, slot-other}
 
 -- ---- the goal
@@ -35,7 +35,7 @@ module _ (net : Network) (x full sets : ℕ) (all : full ≡ allOf (net .targets
 
   -- a set other than that of all targets
   goal-other : (m : ℕ) → m < 16 → eqb m full ≡ false → sysOf net .goal (x * 16 + m) ≡ false
-  goal-other m lt e = goal-at m lt ∙ rw e (and-false (ltb 0 (count net x)))
+  goal-other m lt e = goal-at m lt ∙ rw e (and-false-right (ltb 0 (count net x)))
 
   -- all targets are not among the sets
   pub goal-absent : wordBit sets full ≡ false → FilteredSets (sysOf net .goal) x sets 0
@@ -43,13 +43,13 @@ module _ (net : Network) (x full sets : ℕ) (all : full ≡ allOf (net .targets
     where
       by : (t : Bool) → eqb m full ≡ t → false ≡ (wordBit sets m && sysOf net .goal (x * 16 + m))
       by true e = let z : m ≡ full = eqb-true m full e in rw z (rw off)
-      by false e = rw (goal-other m lt e) (sym (and-false (wordBit sets m)))
+      by false e = rw (goal-other m lt e) (sym (and-false-right (wordBit sets m)))
 
   -- the setting is not valid
   pub goal-stopped : count net x ≡ 0 → FilteredSets (sysOf net .goal) x sets 0
   goal-stopped z m lt =
       let e : sysOf net .goal (x * 16 + m) ≡ false = goal-at m lt ∙ rw z in
-      zero-bit m ∙ rw e (sym (and-false (wordBit sets m)))
+      zero-bit m ∙ rw e (sym (and-false-right (wordBit sets m)))
 
   -- the goal is there
   pub goal-alone : full < 16 → wordBit sets full ≡ true → (count net x ≡ 0 → ⊥) → FilteredSets (sysOf net .goal) x sets (2 ^ full)
@@ -61,7 +61,7 @@ module _ (net : Network) (x full sets : ℕ) (all : full ≡ allOf (net .targets
           let g : sysOf net .goal (x * 16 + m) ≡ true = goal-at m lt ∙ rw (lt-ltb 0 (count net x) (omega arith), e) in
           let s : wordBit sets m ≡ true = ap (wordBit sets) z ∙ on in
           rw (g, s) (eq-eqb full m (sym z))
-      by false e = rw (goal-other m lt e) (ne-eqb full m (λ z. eqb-false m full e (sym z)) ∙ sym (and-false (wordBit sets m)))
+      by false e = rw (goal-other m lt e) (ne-eqb full m (λ z. eqb-false m full e (sym z)) ∙ sym (and-false-right (wordBit sets m)))
 
 -- ---- the sets that the choices lead to
 

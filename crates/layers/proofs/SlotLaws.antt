@@ -12,11 +12,11 @@ use lib.Dec.{ltb}
 use lib.ListN.{length, getD, set}
 use lib.Seq.{getD-set-same, getD-set-other}
 use borrow.Author.Tests.{lt-ltb, le-ltb}
+use Rattle.model.proofs.Lists.{and-false-right}
 use Rattle.path.specs.Layout.{wordBit}
 use Rattle.path.proofs.WordLaws.{zero-bit}
 use Rattle.layers.specs.Table.{inSlot, layersOf, OutOfSlot, Others}
 use Rattle.layers.specs.Keeping.{Filtered, FilteredSets}
-use Rattle.layers.proofs.SetLaws.{and-false}
 
 -- ---- a state in a slot
 
@@ -100,7 +100,7 @@ module _ (test : ℕ → Bool) (i x : ℕ) (tab tab′ : List ℕ) (h : Filterin
   filtering-skip small zero = record { done = done; ahead = λ y a b. h .ahead y (omega arith) b; others = h .others }
     where
       none : (l : List ℕ) (s : ℕ) → s / 16 ≡ x → getD l (i * 729 + x) 0 ≡ 0 → inSlot l i s ≡ false
-      none l s e z = rw (e, z, zero-bit (s % 16)) (and-false (ltb s 11664))
+      none l s e z = rw (e, z, zero-bit (s % 16)) (and-false-right (ltb s 11664))
 
       done : (s : ℕ) → s / 16 < x + 1 → inSlot tab′ i s ≡ (inSlot tab i s && test s)
       done s lt =

@@ -1,7 +1,7 @@
 -- A `hold` line added.
 -- Assumes nothing.
 use mathlib.Core.Path.{_≡_, refl, sym, ap, _∙_}
-use mathlib.Core.Bool.{Bool, true, false, cond, _&&_, _||_}
+use mathlib.Core.Bool.{Bool, true, false, cond, _||_}
 use mathlib.Core.Option.{Option, some}
 use mathlib.Core.List.{List, [], _∷_, _++_}
 use Prim.Native.Nat.{ℕ, zero, suc, _+_, _≤_, _<_}
@@ -15,7 +15,7 @@ use Rattle.model.specs.Result.{ok, refused}
 use Rattle.model.specs.Text.{Bytes, Trit, trit, bitsFrom}
 use Rattle.model.specs.Network.{Node, segment, multiplexer, at, noNode, isSegment, lenOf, Held, heldOr}
 use Rattle.model.specs.NetworkText.{Draft, hasOut, isSome, fitsBits, isHeld, addHold, withHold, outside}
-use Rattle.model.proofs.Lists.{or-parts, true-false}
+use Rattle.model.proofs.Lists.{or-parts, true-false, or-false-right, or-assoc, and-false-right}
 use Rattle.model.proofs.Reading.{sound-hold}
 use Rattle.path.specs.Layout.{nodeAt, tritsOf, byteBit}
 use Rattle.path.specs.Words.{wordFrom, byteKnown}
@@ -60,12 +60,8 @@ module _ (ns bits known steering held : List ℕ) (t : Tally) (d : Draft) (n : �
   pub unfit-none : {A : Type 0} (s : ℕ) (bs : List A) → lenOf (at (d .nodes) s noNode) ≡ 0 → fitsBits (d .nodes) s bs ≡ false
   unfit-none s bs e = rw (no-bits s e)
 
-  and-no : (a : Bool) → (a && false) ≡ false
-  and-no true = refl
-  and-no false = refl
-
   pub unfit-length : {A : Type 0} (s : ℕ) (bs : List A) → (length bs ≡ lenOf (at (d .nodes) s noNode) → ⊥) → fitsBits (d .nodes) s bs ≡ false
-  unfit-length s bs ne = rw (ne-eqb (length bs) (lenOf (at (d .nodes) s noNode)) ne) (and-no (isSegment (at (d .nodes) s noNode)))
+  unfit-length s bs ne = rw (ne-eqb (length bs) (lenOf (at (d .nodes) s noNode)) ne) (and-false-right (isSegment (at (d .nodes) s noNode)))
 
   pub fit : {A : Type 0} (s : ℕ) (bs : List A) → (lenOf (at (d .nodes) s noNode) ≡ 0 → ⊥) → length bs ≡ lenOf (at (d .nodes) s noNode) → fitsBits (d .nodes) s bs ≡ true
   fit s bs ne e = rw (with-bits s ne) (eq-eqb (length bs) (lenOf (at (d .nodes) s noNode)) e)
@@ -96,16 +92,8 @@ one s bs = record { segmentNumber = s; bits = bs }
 
 held-more : (hs : List Held) (s : ℕ) (bs : List Trit) (r : ℕ) → isHeld (hs ++ one s bs ∷ []) r ≡ (isHeld hs r || eqb s r)
 unfolding isHeld
-held-more [] s bs r = last (eqb s r)
-  where
-    last : (t : Bool) → (t || false) ≡ t
-    last true = refl
-    last false = refl
-held-more (h ∷ hs) s bs r = ap (λ (t : Bool). eqb (h .segmentNumber) r || t) (held-more hs s bs r) ∙ group (eqb (h .segmentNumber) r) (isHeld hs r) (eqb s r)
-  where
-    group : (p q u : Bool) → (p || (q || u)) ≡ ((p || q) || u)
-    group true q u = refl
-    group false q u = refl
+held-more [] s bs r = or-false-right (eqb s r)
+held-more (h ∷ hs) s bs r = ap (λ (t : Bool). eqb (h .segmentNumber) r || t) (held-more hs s bs r) ∙ or-assoc (eqb (h .segmentNumber) r) (isHeld hs r) (eqb s r)
 
 start-more : (other : List Trit) (hs : List Held) (s : ℕ) (bs : List Trit) (r : ℕ) → heldOr other (hs ++ one s bs ∷ []) r ≡ heldOr (cond (eqb s r) bs other) hs r
 unfolding heldOr
@@ -140,15 +128,11 @@ module _ (ns bits known steering held : List ℕ) (t : Tally) (d : Draft) (n : �
       or-one true = refl
       or-one false = refl
 
-      or-none : (b : Bool) → b ≡ (b || false)
-      or-none true = refl
-      or-none false = refl
-
       go : (b : Bool) → eqb s r ≡ b → eqb (getD held′ r 0) 1 ≡ (isHeld (d .holds) r || b)
       go true e =
           ap (λ (x : ℕ). eqb (getD held′ x 0) 1) (sym (eqb-true s r e)) ∙ ap (λ (x : ℕ). eqb x 1) (getD-set-same held s 1 0 (omega (arith, w .sized .held-flags)))
           ∙ or-one (isHeld (d .holds) r)
-      go false e = ap (λ (x : ℕ). eqb x 1) (getD-set-other held s r 1 0 (λ z. eqb-false s r e (sym z))) ∙ w .held-is r l ∙ or-none (isHeld (d .holds) r)
+      go false e = ap (λ (x : ℕ). eqb x 1) (getD-set-other held s r 1 0 (λ z. eqb-false s r e (sym z))) ∙ w .held-is r l ∙ sym (or-false-right (isHeld (d .holds) r))
 
   start : (r : ℕ) → r ≤ 128 → (other : List Trit)
       → heldOr other (d .holds ++ one s (bitsIn trit f) ∷ []) r ≡ cond (eqb (getD held′ r 0) 1) (tritsOf (lenOf (nodeAt ns r)) (getD bits′ r 0) (getD known′ r 0)) other

@@ -13,7 +13,7 @@ use Rattle.model.specs.Result.{Result, ok, refused}
 use Rattle.model.specs.Network.{Node, segment, multiplexer, tabulate, noNode, lenOf, steers, steersAt, at}
 use Rattle.model.specs.Path.{nodeOf}
 use Rattle.model.specs.NetworkText.{Draft, hasOut, isSome, outside}
-use Rattle.model.proofs.Lists.{or-parts, length-tabulate, getD-tabulate}
+use Rattle.model.proofs.Lists.{or-parts, length-tabulate, getD-tabulate, or-false-right, or-assoc}
 use Rattle.model.proofs.LineForms.{GoodForm}
 use Rattle.path.specs.Layout.{fieldAt, nodeAt, nodesOf, wordWidth}
 use Rattle.network.specs.declared.draft.Tally.{Tally}
@@ -36,16 +36,8 @@ agrees-ok D a r d e f x = subst (λ (y : Result Draft). Agrees D y r) (sym e) (f
 -- steering bits of one node more
 pub steers-more : (ns : List Node) (x : Node) (s b : ℕ) → steers (ns ++ x ∷ []) s b ≡ (steers ns s b || steersAt x s b)
 unfolding steers
-steers-more [] x s b = last (steersAt x s b)
-  where
-    last : (t : Bool) → (t || false) ≡ t
-    last true = refl
-    last false = refl
-steers-more (n ∷ ns) x s b = ap (λ (t : Bool). steersAt n s b || t) (steers-more ns x s b) ∙ group (steersAt n s b) (steers ns s b) (steersAt x s b)
-  where
-    group : (p q r : Bool) → (p || (q || r)) ≡ ((p || q) || r)
-    group true q r = refl
-    group false q r = refl
+steers-more [] x s b = or-false-right (steersAt x s b)
+steers-more (n ∷ ns) x s b = ap (λ (t : Bool). steersAt n s b || t) (steers-more ns x s b) ∙ or-assoc (steersAt n s b) (steers ns s b) (steersAt x s b)
 
 -- the kind number of a node of good form
 pub kind-small : (ns : List ℕ) (k : ℕ) → GoodForm (nodeAt ns k) → fieldAt ns k 0 ≤ 4

@@ -2,17 +2,17 @@
 -- Assumes nothing.
 use mathlib.Core.Path.{_≡_, refl, sym, ap, _∙_}
 use mathlib.Core.Bool.{Bool, true, false, cond}
-use mathlib.Core.List.{List, _∷_}
-use Prim.Native.Nat.{ℕ, zero, suc, _+_, _≤_, _<_}
+use mathlib.Core.List.{List}
+use Prim.Native.Nat.{ℕ, _+_, _≤_, _<_}
 use native.Mathlib.Omega.{arith}
 use native.Mathlib.Decide.{decLt}
 use lib.ListN.{length, getD, set, length-set, replicate}
 use lib.Seq.{getD-set-same, getD-set-other}
 use lib.Dec.{eqb}
 use borrow.Author.Tests.{eq-eqb, ne-eqb, eqb-true, eqb-false}
-use Rattle.model.specs.Network.{lenOf, mapFrom, tabulate, isSteering, heldOr, startBit, startOf}
+use Rattle.model.specs.Network.{lenOf, mapFrom, isSteering, heldOr, startBit, startOf}
 use Rattle.model.specs.NetworkText.{Draft, hasOut}
-use Rattle.model.proofs.Lists.{tabulate-cong}
+use Rattle.model.proofs.Lists.{tabulate-cong, mapFrom-tabulate}
 use Rattle.path.specs.Layout.{nodeAt, wordWidth, allKnown, tritsOf, configOf}
 use Rattle.path.proofs.WordLaws.{trits-zero, trits-unknown}
 use Rattle.network.specs.declared.draft.Tally.{Tally}
@@ -83,10 +83,6 @@ module _ (bits₀ known₀ steering held : List ℕ) where
 
 -- ---- the configuration
 
-map-tabulate : {A B : Type 0} (f : ℕ → A → B) (g : ℕ → A) (i n : ℕ) → mapFrom i f (tabulate g i n) ≡ tabulate (λ k. f k (g k)) i n
-map-tabulate f g i zero = refl
-map-tabulate f g i (suc n) = ap (λ (l : List _). f i (g i) ∷ l) (map-tabulate f g (suc i) n)
-
 module _ (ns bits known steering held : List ℕ) (t : Tally) (d : Draft) (n : ℕ) (w : Draws ns bits known steering held t d n) (out : hasOut d ≡ true)
     (bits′ known′ : List ℕ) (f : StartFilled bits known steering held (t .count) bits′ known′) where
   row : (s : ℕ) → 1 ≤ s → s ≤ t .count
@@ -120,5 +116,5 @@ module _ (ns bits known steering held : List ℕ) (t : Tally) (d : Draft) (n : �
   unfolding configOf startOf
   start-config =
       tabulate-cong _ (λ k. heldOr (replicate (lenOf (nodeAt ns k)) (startBit (isSteering (d .nodes) k))) (d .holds) k) 1 (t .count) (λ x l. row (1 + x) (omega arith) (omega arith))
-      ∙ sym (map-tabulate (λ s n. heldOr (replicate (lenOf n) (startBit (isSteering (d .nodes) s))) (d .holds) s) (nodeAt ns) 1 (t .count))
+      ∙ sym (mapFrom-tabulate (λ s n. heldOr (replicate (lenOf n) (startBit (isSteering (d .nodes) s))) (d .holds) s) (nodeAt ns) 1 (t .count))
       ∙ ap (mapFrom 1 (λ s n. heldOr (replicate (lenOf n) (startBit (isSteering (d .nodes) s))) (d .holds) s)) (w .nodes-are)

@@ -12,7 +12,7 @@ use lib.Dec.{eqb, ltb}
 use lib.ListN.{length, getD, set, length-set}
 use lib.Seq.{getD-set-same, getD-set-other}
 use borrow.Author.Tests.{eq-eqb}
-use Rattle.model.proofs.Lists.{getD-tabulate, eqb-same, eqb-is, true-false}
+use Rattle.model.proofs.Lists.{getD-tabulate, eqb-same, eqb-is, true-false, or-false-right}
 use Rattle.path.specs.Layout.{wordBit, lookIn}
 use Rattle.path.specs.Answers.{ConfigSized}
 use Rattle.path.proofs.WordLaws.{zero-bit}
@@ -53,10 +53,6 @@ cleared-all segments j k bits known l p = record { sized = p .sized; words = λ 
 
 -- ---- one digit
 
-or-none : (t : Bool) → t ≡ (t || false)
-or-none true = refl
-or-none false = refl
-
 no-more : (a b : Bool) → (a || (b && false)) ≡ a
 no-more true b = refl
 no-more false true = refl
@@ -68,12 +64,12 @@ and-true false = refl
 
 module _ (bits known : List ℕ) (s b d : ℕ) (z : ConfigSized bits known) where
   pub digit-unknown : d ≡ 2 → DigitSet bits known s b d bits known
-  digit-unknown e = record { sized = z; words = λ r c l m. rw e (or-none (wordBit (getD bits r 0) c)); marks = λ r c l m. rw e (or-none (wordBit (getD known r 0) c)) }
+  digit-unknown e = record { sized = z; words = λ r c l m. rw e (sym (or-false-right (wordBit (getD bits r 0) c))); marks = λ r c l m. rw e (sym (or-false-right (wordBit (getD known r 0) c))) }
 
   pub digit-zero : (known′ : List ℕ) → d ≡ 0 → BitMarked known s b known′ → DigitSet bits known s b d bits known′
   digit-zero known′ e p = record {
     sized = record { words = z .words; marks = p .size ∙ z .marks };
-    words = λ r c l m. rw e (or-none (wordBit (getD bits r 0) c));
+    words = λ r c l m. rw e (sym (or-false-right (wordBit (getD bits r 0) c)));
     marks = λ r c l m. rw e (p .marks r c l m);
   }
 
