@@ -23,9 +23,8 @@ use Rattle.search.specs.Layers.{Earlier, Layers}
 use Rattle.search.proofs.Forward.{earlier-same, stepped-same, layers-same, layers-start, layers-next, layers-empty, nothing-up-to}
 use Rattle.search.proofs.MoveLaws.{gain-within, land-within}
 use Rattle.layers.specs.Table.{inSlot, inSeen, layersOf, Others, Known, SlotKnown}
-use Rattle.layers.specs.Spreading.{Spread, Next, SetsIn, GoalIn, Met}
-use Rattle.layers.specs.Plans.{Starts}
-use Rattle.layers.proofs.SetLaws.{together-small}
+use Rattle.layers.specs.Spreading.{Spread, Next, SetsIn, GoalIn, Met, Starts}
+use Rattle.sets.proofs.SetLaws.{together-small}
 use Rattle.layers.proofs.SlotLaws.{slot-beyond, slot-other}
 
 -- the search has come to layer i: no layer so far has a goal, and the slots from i on are empty

@@ -17,10 +17,10 @@ use Rattle.model.proofs.Lists.{or-left, or-right, and-both, and-parts}
 use Rattle.path.specs.Layout.{wordBit}
 use Rattle.network.proofs.Nodes.{wordBit-or, or-false}
 use Rattle.search.specs.Moves.{count, gain, land}
-use Rattle.layers.specs.Sets.{Joined}
+use Rattle.sets.specs.Sets.{Joined}
 use Rattle.layers.specs.Table.{inSlot, inSeen, OutOfSlot}
 use Rattle.layers.specs.Spreading.{Spread, AtSetting, Arrives, Leaves, SetsIn}
-use Rattle.layers.proofs.SetLaws.{or-cases, together-small}
+use Rattle.sets.proofs.SetLaws.{or-cases, together-small}
 
 -- ---- nothing, and one after the other
 

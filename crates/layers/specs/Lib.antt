@@ -1,7 +1,3 @@
--- What the contracts of the search cite: sets of sets of targets, the table of layers, its spreading, what is kept of it, and the
--- plan found.
-pub mod Sets
+-- What the contracts of the layers cite: the table of layers, and its spreading.
 pub mod Table
 pub mod Spreading
-pub mod Keeping
-pub mod Plans

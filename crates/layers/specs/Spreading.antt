@@ -5,13 +5,13 @@ use mathlib.Core.Bool.{Bool, true, false, _&&_}
 use mathlib.Core.Logic.{_⊎_}
 use mathlib.Core.List.{List}
 use mathlib.Core.Option.{none}
-use Prim.Native.Nat.{ℕ, _/_, _%_, _≤_, _<_}
+use Prim.Native.Nat.{ℕ, _/_, _%_, _^_, _≤_, _<_}
 use lib.Dec.{ltb}
 use lib.ListN.{length, getD}
-use Rattle.model.specs.Network.{Network}
+use Rattle.model.specs.Network.{Network, steeringBits}
 use Rattle.path.specs.Layout.{wordBit}
 use Rattle.search.specs.Search.{planUpTo}
-use Rattle.search.specs.Moves.{count, reached, goes, sysOf}
+use Rattle.search.specs.Moves.{allOf, count, reached, goes, sysOf}
 use Rattle.search.specs.Layers.{Layers, Stepped}
 use Rattle.layers.specs.Table.{inSlot, inSeen, layersOf, OnlySlot, Known}
 
@@ -61,6 +61,12 @@ goalWith net full x sets = wordBit sets full && ltb 0 (count net x)
 pub record GoalIn (net : Network) (tab : List ℕ) (i : ℕ) (r : Bool) : Type 0 where
   pub some-goal : r ≡ true → (s : ℕ) × (inSlot tab i s ≡ true) × (sysOf net .goal s ≡ true)
   pub no-goal : r ≡ false → (s : ℕ) → inSlot tab i s ≡ true → sysOf net .goal s ≡ false
+
+-- a start in a setting of the network, and the number of all targets, of which there is one at least
+pub record Starts (net : Network) (start full : ℕ) : Type 0 where
+  pub within : start < 3 ^ length (steeringBits (net .nodes))
+  pub all : full ≡ allOf (net .targets)
+  pub one : 1 ≤ full
 
 -- the first layer with a goal, r; 0 where none up to layer 16 has one
 pub record Met (net : Network) (start : ℕ) (tab : List ℕ) (r : ℕ) : Type 0 where

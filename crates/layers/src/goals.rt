@@ -1,20 +1,20 @@
 // Whether a slot has a goal: a valid setting with all targets reached.
-use crate::sets::has;
 use path::layout::Nodes;
 use path::layout::Words;
-use settings::route::setting_count;
-use settings::rows::COUNT;
-use settings::rows::Rows;
-use settings::rows::know_row;
-use settings::rows::number;
-use settings::steering::Problem;
+use rows::COUNT;
+use rows::Rows;
+use rows::know_row;
+use rows::number;
+use sets::has;
+use settings::setting_count;
+use steering::Problem;
 ghost use mathlib.Core.Path.{_≡_};
 ghost use mathlib.Core.Bool.{true};
 ghost use Prim.Native.Nat.{ℕ, _≤_, _<_};
 ghost use lib.ListN.{length};
 ghost use Rattle.search.specs.Moves.{allOf};
 ghost use Rattle.settings.specs.Route.{Plannable, Each};
-ghost use Rattle.settings.specs.Rows.{RowsRight};
+ghost use Rattle.rows.specs.Rows.{RowsRight};
 ghost use Rattle.layers.specs.Table.{SlotKnown, inSlot};
 ghost use Rattle.layers.specs.Spreading.{SetsIn, goalWith, GoalIn};
 

@@ -1,26 +1,25 @@
 // From layer to layer: each state that an operation leads to goes into the next slot, unless it was met before, up to the first
 // layer with a goal. A setting's row is written when the search first needs it.
 use crate::goals::meets_goal;
-use crate::sets::joined;
 use path::layout::Nodes;
 use path::layout::Words;
 use path::layout::wide;
-use settings::route::setting_count;
-use settings::rows::GAIN;
-use settings::rows::Lands;
-use settings::rows::Rows;
-use settings::rows::know_row;
-use settings::rows::list_lands;
-use settings::rows::number;
-use settings::steering::Problem;
+use rows::GAIN;
+use rows::Lands;
+use rows::Rows;
+use rows::know_row;
+use rows::list_lands;
+use rows::number;
+use sets::joined;
+use settings::setting_count;
+use steering::Problem;
 ghost use mathlib.Core.Path.{_≡_};
 ghost use Prim.Native.Nat.{ℕ, _*_, _≤_, _<_};
 ghost use lib.ListN.{length, getD};
 ghost use Rattle.settings.specs.Route.{Plannable, Each};
-ghost use Rattle.settings.specs.Rows.{RowsRight, Landing, OfRow};
+ghost use Rattle.rows.specs.Rows.{RowsRight, Landing, OfRow};
 ghost use Rattle.layers.specs.Table.{OnlySlot, Known};
-ghost use Rattle.layers.specs.Spreading.{Spread, AtSetting, Arrives, Leaves, Next, SetsIn, Met};
-ghost use Rattle.layers.specs.Plans.{Starts};
+ghost use Rattle.layers.specs.Spreading.{Spread, AtSetting, Arrives, Leaves, Next, SetsIn, Met, Starts};
 
 // The states met, a set of sets of targets for each setting.
 pub type Seen = [u16; 729];

@@ -23,7 +23,8 @@ use Rattle.network.specs.Draws.{targetAt, targetsOf}
 use Rattle.marker.specs.declared.targets.Gots.{Gots}
 use Rattle.marker.specs.declared.targets.Verdict.the-variants.{Pass as Passed}
 use Rattle.marker.specs.Marks.{gotsOf, Blank, noGots, refusedMark}
-use Rattle.marker.specs.Targets.{accessOf, Reached, Pushed, segmentOf, Judgeable, lenAt, isHeld, Judges}
+use Rattle.operations.specs.Operations.{accessOf, Reached}
+use Rattle.marker.specs.Targets.{Pushed, segmentOf, Judgeable, lenAt, isHeld, Judges}
 use Rattle.marker.proofs.Rows.{blank-none}
 
 -- ---- bits

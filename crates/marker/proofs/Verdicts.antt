@@ -24,14 +24,14 @@ use Rattle.network.specs.declared.reader.Reading.{Reading}
 use Rattle.network.specs.declared.reader.Verdict.{Verdict}
 use Rattle.network.specs.declared.reader.Verdict.the-variants.{Accepted, Refused as Rejected}
 use Rattle.network.specs.Reads.{networkOf, IsReading}
-use Rattle.marker.specs.declared.operations.Ran.{Ran}
-use Rattle.marker.specs.declared.operations.Ran.the-variants.{Done, Refused}
+use Rattle.operations.specs.declared.Ran.{Ran}
+use Rattle.operations.specs.declared.Ran.the-variants.{Done, Refused}
 use Rattle.marker.specs.declared.targets.Mark.{Mark}
 use Rattle.marker.specs.Marks.{markOf, refusedMark, RowsFor, Markable, planMark}
-use Rattle.marker.specs.Targets.{Reached, Judgeable, Judges}
-use Rattle.marker.specs.Operations.{Slots, configAt, RanAs, Starts, Startable, fromStart, Runs}
+use Rattle.marker.specs.Targets.{Judgeable, Judges}
+use Rattle.operations.specs.Operations.{Slots, configAt, RanAs, Starts, Startable, fromStart, Runs, Reached}
 use Rattle.network.proofs.Records.{Recorded, reading-rejected, reading-recorded, target-segment}
-use Rattle.marker.proofs.Noting.{reached-none}
+use Rattle.operations.proofs.Noting.{reached-none}
 
 -- ---- the texts
 

@@ -2,32 +2,21 @@
 -- Assumes nothing.
 use mathlib.Core.Path.{_≡_}
 use mathlib.Core.Bool.{Bool}
-use mathlib.Core.Option.{Option, none, some}
 use mathlib.Core.List.{List, [], _∷_, _++_}
-use Prim.Native.Nat.{ℕ, zero, suc, _≤_, _<_}
+use Prim.Native.Nat.{ℕ, suc, _≤_, _<_}
 use lib.ListN.{getD}
 use Rattle.model.specs.Result.{ok, andThen}
 use Rattle.model.specs.Network.{lenOf, tabulate}
 use Rattle.model.specs.Path.{ScanPath}
-use Rattle.model.specs.Mark.{firstOn, holdsBits, targetsFrom}
+use Rattle.model.specs.Mark.{holdsBits, targetsFrom}
 use Rattle.path.specs.Layout.{nodeAt, wordWidth, wordBit, tritsOf, configOf}
 use Rattle.path.specs.Answers.{ConfigSized}
 use Rattle.network.specs.declared.draft.Tally.{Tally}
 use Rattle.network.specs.Draws.{Tame, targetsOf}
 use Rattle.marker.specs.declared.targets.Gots.{Gots}
 use Rattle.marker.specs.declared.targets.Mark.{Mark}
+use Rattle.operations.specs.Operations.{Reached}
 use Rattle.marker.specs.Marks.{gotsOf, Blank, markOf}
-
--- ---- first operations
-
--- an operation and a place as they are stored: no operation is 0
-abbrev pub accessOf : ℕ → ℕ → Option (ℕ × ℕ)
-accessOf zero q = none
-accessOf (suc k) q = some (suc k, q)
-
--- for each target the first operation on whose path it was, after operations with these paths, and its place
-abbrev pub Reached : Tally → List ℕ → List ℕ → List ScanPath → Type 0
-Reached t first places ps = (i : ℕ) → i < t .«target_count» → accessOf (getD first i 0) (getD places i 0) ≡ firstOn 1 ps (getD (t .«target_segment») i 0)
 
 -- ---- rows
 

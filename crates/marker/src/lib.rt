@@ -1,19 +1,18 @@
 // The marker: judges a plan text against a network text.
-use crate::operations::Ran;
-use crate::operations::run_plan;
 use crate::targets::Mark;
 use crate::targets::judge;
 use crate::targets::refused;
 use network::reader::Network;
 use network::reader::Verdict;
 use network::reader::read_network;
+use operations::Ran;
+use operations::run_plan;
 use plan_text::Form;
 use plan_text::check_form;
 ghost use mathlib.Core.Path.{_≡_};
 ghost use Rattle.model.specs.Mark.{mark as markOfTexts};
 ghost use Rattle.marker.specs.Marks.{markOf, RowsFor, Markable, planMark};
 
-pub mod operations;
 pub mod targets;
 
 // The mark of a plan of good form on an accepted network: the operations in turn, then the targets.

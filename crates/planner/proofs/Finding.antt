@@ -20,9 +20,9 @@ use Rattle.search.proofs.Least.{plan-length}
 use Rattle.search.proofs.SettingNumbers.{setting-small}
 use Rattle.search.proofs.SameSearch.{plan-is}
 use Rattle.search.proofs.Decoded.{plan-follows}
-use Rattle.layers.specs.declared.plan.Found.{Found}
-use Rattle.layers.specs.declared.plan.Found.the-variants.{Operations, Nothing}
-use Rattle.layers.specs.Plans.{foundOf, withChoices, PlanFound}
+use Rattle.plan_search.specs.declared.plan.Found.{Found}
+use Rattle.plan_search.specs.declared.plan.Found.the-variants.{Operations, Nothing}
+use Rattle.plan_search.specs.Plans.{foundOf, withChoices, PlanFound}
 use Rattle.planner.specs.Writing.{Picked}
 use Rattle.planner.proofs.WholeText.{choice-held}
 

@@ -19,14 +19,15 @@ use Rattle.search.specs.Settings.{settingOf, numberOf}
 use Rattle.search.specs.Moves.{decode}
 use Rattle.search.proofs.SettingNumbers.{setting-small}
 use Rattle.search.proofs.MoveLaws.{settings-within}
-use Rattle.settings.specs.declared.steering.Problem.{Problem}
-use Rattle.settings.specs.Steering.{steeringOf, ProblemOf}
+use Rattle.steering.specs.declared.Problem.{Problem}
+use Rattle.steering.specs.Steering.{steeringOf, ProblemOf}
 use Rattle.settings.specs.Route.{Prepared, Each}
-use Rattle.settings.specs.Rows.{RowsRight}
+use Rattle.rows.specs.Rows.{RowsRight}
 use Rattle.settings.proofs.SettingWalk.{planned-few}
-use Rattle.layers.specs.declared.plan.Found.{Found}
-use Rattle.layers.specs.declared.plan.Found.the-variants.{Operations, Nothing}
-use Rattle.layers.specs.Plans.{Starts, PlanFound}
+use Rattle.plan_search.specs.declared.plan.Found.{Found}
+use Rattle.plan_search.specs.declared.plan.Found.the-variants.{Operations, Nothing}
+use Rattle.layers.specs.Spreading.{Starts}
+use Rattle.plan_search.specs.Plans.{PlanFound}
 use Rattle.planner.specs.declared.writer.Planned.{Planned}
 use Rattle.planner.specs.declared.writer.Planned.the-variants.{Written, Refused}
 use Rattle.planner.specs.Writing.{CountsOf, Countable, GivesText}

@@ -18,8 +18,8 @@ use Rattle.network.specs.Reads.{networkOf, Filled}
 use Rattle.search.specs.Settings.{settingOf, numberOf}
 use Rattle.search.proofs.Steering.{steering-bit}
 use Rattle.search.proofs.SettingNumbers.{setting-same}
-use Rattle.settings.specs.declared.steering.Problem.{Problem}
-use Rattle.settings.specs.Steering.{steeringOf, Steered, ProblemOf}
+use Rattle.steering.specs.declared.Problem.{Problem}
+use Rattle.steering.specs.Steering.{steeringOf, Steered, ProblemOf}
 use Rattle.settings.specs.Route.{Prepared}
 
 module _ (r : Network) (filled : Filled r) (accepted : Accepted (networkOf r)) (few : r .«steering_count» ≤ 6) where

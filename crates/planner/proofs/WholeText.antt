@@ -25,7 +25,8 @@ use Rattle.search.specs.Settings.{walkAt}
 use Rattle.search.specs.Choices.{placesOf, bitsFrom}
 use Rattle.search.proofs.MoveLaws.{path-short, land-within}
 use Rattle.search.proofs.Decoded.{decode-bits, bits-length}
-use Rattle.planner.specs.Line.{HasRoom, pathBits, textLength}
+use Rattle.planner.specs.Writing.{textLength}
+use Rattle.plan_lines.specs.Line.{HasRoom, pathBits}
 
 -- i choices are passed, x is the setting behind them, and the others can be made from it on
 pub record Passed (net : Network) (cs : List ℕ) (i x : ℕ) : Type 0 where

@@ -15,11 +15,11 @@ use Rattle.path.specs.declared.walk.Walked.the-variants.{Path, Stop as Stopped}
 use Rattle.search.specs.Moves.{land, StepOf}
 use Rattle.search.specs.Settings.{walkAt}
 use Rattle.search.proofs.MoveLaws.{settings-within, path-short, land-within}
-use Rattle.settings.specs.declared.steering.Problem.{Problem}
+use Rattle.steering.specs.declared.Problem.{Problem}
 use Rattle.settings.specs.Route.{Prepared, Each, WalkIs}
-use Rattle.settings.specs.Rows.{rowNumber, RowsRight, Lands, Landing, LandsIn}
+use Rattle.rows.specs.Rows.{rowNumber, RowsRight, Lands, Landing, LandsIn}
 use Rattle.settings.proofs.SettingWalk.{planned-few}
-use Rattle.planner.specs.Line.{WantsOf, HasRoom, Fills, LinePut}
+use Rattle.plan_lines.specs.Line.{WantsOf, HasRoom, Fills, LinePut}
 use Rattle.planner.specs.Writing.{LandIn, CountsOf, Counts, WritesOf, Writes}
 use Rattle.planner.proofs.WholeText.{
   Passed,

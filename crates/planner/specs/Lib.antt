@@ -1,5 +1,4 @@
--- What the contracts of the planner cite: the lines of the plan text, the whole text, the call, and the demand on it.
-pub mod Line
+-- What the contracts of the planner cite: the whole text, the call, and the demand on it.
 pub mod Writing
 pub mod Call
 pub mod Demand

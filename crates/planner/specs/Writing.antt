@@ -10,12 +10,11 @@ use Rattle.model.specs.Result.{Result, ok, refused}
 use Rattle.model.specs.Text.{Bytes}
 use Rattle.model.specs.Calls.{writeOver, written, countOf, ifRoom}
 use Rattle.search.specs.Moves.{land, decode, Follows}
-use Rattle.settings.specs.declared.steering.Problem.{Problem}
+use Rattle.steering.specs.declared.Problem.{Problem}
 use Rattle.settings.specs.Route.{Prepared}
-use Rattle.settings.specs.Rows.{Lands}
+use Rattle.rows.specs.Rows.{Lands}
 use Rattle.planner.specs.declared.writer.Planned.{Planned}
 use Rattle.planner.specs.declared.writer.Planned.the-variants.{Written, Refused}
-use Rattle.planner.specs.Line.{textLength}
 
 -- the setting that choice c leads to from setting x of each network that has row x
 pub record LandIn (rows : List ℕ) (x c r : ℕ) : Type 0 where
@@ -40,6 +39,10 @@ abbrev pub Countable : List ℕ → List ℕ → Problem → ℕ → List ℕ �
 Countable ns steering p start picked n = (net : Network) × (cs : List ℕ) × CountsOf net ns steering p start picked n cs
 
 -- ---- the length
+
+-- the bytes of the text of these choices from setting x on
+abbrev pub textLength : Network → ℕ → List ℕ → ℕ
+textLength net x cs = length (writePlan (decode net x cs))
 
 abbrev pub Counts : List ℕ → List ℕ → Problem → ℕ → List ℕ → ℕ → ℕ → Type 0
 Counts ns steering p start picked n r =

@@ -1,24 +1,23 @@
 // The planner: a network text to the plan with the fewest operations.
 use crate::writer::Planned;
 use crate::writer::write_plan;
-use layers::plan::Found;
-use layers::plan::clear;
-use layers::plan::find_plan;
 use network::reader::Network;
 use network::reader::Verdict;
 use network::reader::read_network;
 use path::layout::wide;
-use settings::rows::Rows;
-use settings::rows::power_of_2;
-use settings::steering::problem_of;
-use settings::steering::setting_number;
+use plan_search::plan::Found;
+use plan_search::plan::clear;
+use plan_search::plan::find_plan;
+use rows::Rows;
+use rows::power_of_2;
+use steering::problem_of;
+use steering::setting_number;
 ghost use mathlib.Core.Path.{_≡_};
 ghost use Prim.Native.Nat.{_≤_};
 ghost use Rattle.model.specs.Calls.{makePlan};
 ghost use Rattle.planner.specs.Writing.{answerOf};
 ghost use Rattle.planner.specs.Call.{Searchable, PlansIn};
 
-pub mod line;
 pub mod writer;
 
 // The most steering bits, and the entries of the search space.

@@ -1,23 +1,23 @@
 // The text of a plan from the choices of the search: its length, then its lines, each along the path of its setting.
-use crate::line::list_wants;
-use crate::line::put_line;
 use path::layout::Nodes;
 use path::layout::Way;
 use path::layout::Words;
 use path::layout::wide;
 use path::walk::Walked;
-use settings::route::walk_setting;
-use settings::rows::COUNT;
-use settings::rows::LENGTH;
-use settings::rows::Lands;
-use settings::rows::Rows;
-use settings::rows::know_row;
-use settings::rows::list_lands;
-use settings::rows::number;
-use settings::steering::Problem;
+use plan_lines::list_wants;
+use plan_lines::put_line;
+use rows::COUNT;
+use rows::LENGTH;
+use rows::Lands;
+use rows::Rows;
+use rows::know_row;
+use rows::list_lands;
+use rows::number;
+use settings::walk_setting;
+use steering::Problem;
 ghost use mathlib.Core.Path.{_≡_};
 ghost use Prim.Native.Nat.{_<_};
-ghost use Rattle.settings.specs.Rows.{rowNumber, RowsRight, Landing};
+ghost use Rattle.rows.specs.Rows.{rowNumber, RowsRight, Landing};
 ghost use Rattle.planner.specs.Writing.{LandIn, Countable, Counts, Writable, Writes, GivesText};
 
 // The count of bytes written, or a refusal's number and place.

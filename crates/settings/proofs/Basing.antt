@@ -17,9 +17,9 @@ use Rattle.network.specs.Draws.{Tame, targetAt}
 use Rattle.network.proofs.Records.{segment-at}
 use Rattle.search.specs.Settings.{baseOf}
 use Rattle.search.specs.Moves.{maskOf, onPath}
-use Rattle.settings.specs.Steering.{pairAt}
+use Rattle.steering.specs.Steering.{pairAt}
 use Rattle.settings.specs.Route.{MarksOf, BaseBy, MaskBy}
-use Rattle.settings.proofs.Numbering.{front, none-left, all-left, digits-small}
+use Rattle.steering.proofs.Numbering.{front, none-left, all-left, digits-small}
 
 -- ---- one digit
 

@@ -1,12 +1,5 @@
--- Laws of the settings: the steering bits in arrays, the path of a setting, the rows of the table.
-pub mod Listing
-pub mod Wording
-pub mod Numbering
+-- Laws of the path of a setting: the walk, the steering bits on it, marks of its segments, numbers by the marks.
 pub mod SettingWalk
 pub mod Ordering
 pub mod PathMarks
 pub mod Basing
-pub mod RowWriting
-pub mod PathRows
-pub mod KnownRows
-pub mod LandList

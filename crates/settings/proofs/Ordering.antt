@@ -18,10 +18,10 @@ use Rattle.path.proofs.ConfigLaws.{at-tabulate}
 use Rattle.path.proofs.PathLaws.{segment-on, path-end}
 use Rattle.search.specs.Settings.{indicesIn, order}
 use Rattle.search.proofs.Order.{indices-none, order-short}
-use Rattle.settings.specs.Steering.{pairAt, bitsOf}
+use Rattle.steering.specs.Steering.{pairAt, bitsOf}
 use Rattle.settings.specs.Route.{Room, IndicesBehind, Steers, Ordered}
-use Rattle.settings.proofs.Listing.{length-bits}
-use Rattle.settings.proofs.Wording.{pair-at, index-in}
+use Rattle.steering.proofs.Listing.{length-bits}
+use Rattle.steering.proofs.Wording.{pair-at, index-in}
 
 -- ---- the indices of one segment: those listed and those to come make the whole
 

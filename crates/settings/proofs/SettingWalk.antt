@@ -3,7 +3,7 @@
 use mathlib.Core.Path.{_≡_, sym, ap, _∙_, subst}
 use mathlib.Core.Bool.{true}
 use mathlib.Core.List.{List, List·Memᴰ}
-use Prim.Native.Nat.{ℕ, zero, suc, _≤_, _<_}
+use Prim.Native.Nat.{ℕ, zero, suc, _^_, _≤_, _<_}
 use native.Mathlib.Nat.{not-suc-le-zero, zero-add}
 use native.Mathlib.Omega.{arith}
 use native.Mathlib.Decide.{decLt}
@@ -24,15 +24,21 @@ use Rattle.network.proofs.Records.{fits-segment, segment-at}
 use Rattle.search.specs.Settings.{Distinct, lookUp, walkAt}
 use Rattle.search.proofs.Steering.{distinct-bits, SteeringBit, steering-bit, bit-listed, getD-in}
 use Rattle.search.proofs.SameWalk.{walk-same}
-use Rattle.settings.specs.declared.steering.Problem.{Problem}
-use Rattle.settings.specs.Steering.{steeringOf, pairAt, Listed, SetTo}
+use Rattle.steering.specs.declared.Problem.{Problem}
+use Rattle.steering.specs.Steering.{steeringOf, pairAt, Listed, SetTo}
 use Rattle.settings.specs.Route.{Steers, TargetsWithin, Prepared, Each, WalkIs}
-use Rattle.settings.proofs.Listing.{length-bits}
-use Rattle.settings.proofs.Wording.{pair-at}
+use Rattle.steering.proofs.Listing.{length-bits}
+use Rattle.steering.proofs.Wording.{pair-at}
 
 module _ (net : Network) (ns steering : List ℕ) (pb : Problem) (p : Prepared net ns steering pb) where
+  bits-count : length (steeringBits (net .nodes)) ≡ pb .width
+  bits-count = ap length (sym (p .bits-are)) ∙ length-bits (pb .segments) (pb .places) (pb .width)
+
   pub planned-few : length (steeringBits (net .nodes)) ≤ 6
-  planned-few = omega (arith, ap length (p .bits-are), length-bits (pb .segments) (pb .places) (pb .width), p .few)
+  planned-few = omega (arith, bits-count, p .few)
+
+  pub settings-count : 3 ^ length (steeringBits (net .nodes)) ≡ 3 ^ pb .width
+  settings-count = ap (λ (n : ℕ). 3 ^ n) bits-count
 
   as-many : length (net .nodes) ≡ pb .tally .count
   as-many = ap length (p .stored .nodes) ∙ length-tabulate (nodeAt ns) 1 (pb .tally .count)

@@ -1,4 +1,2 @@
--- What the contracts of the settings cite: the steering bits in arrays, the path of a setting, the rows of the table.
-pub mod Steering
+-- What the contracts of the walk in a setting cite.
 pub mod Route
-pub mod Rows

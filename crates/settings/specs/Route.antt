@@ -15,8 +15,8 @@ use Rattle.network.specs.declared.draft.Tally.{Tally}
 use Rattle.network.specs.Draws.{Tame, targetsOf}
 use Rattle.search.specs.Settings.{walkAt, indicesIn, order, baseOf}
 use Rattle.search.specs.Moves.{maskOf, onPath}
-use Rattle.settings.specs.declared.steering.Problem.{Problem}
-use Rattle.settings.specs.Steering.{bitsOf, steeringOf}
+use Rattle.steering.specs.declared.Problem.{Problem}
+use Rattle.steering.specs.Steering.{bitsOf, steeringOf}
 
 -- ---- marks of the segments on a path
 

@@ -6,10 +6,10 @@ use Prim.Native.Nat.{ℕ, _+_, _*_, _-_, _≤_, _<_}
 use native.Mathlib.Omega.{arith}
 use borrow.Author.Count.{below-more}
 use lib.ListN.{getD}
-use Rattle.settings.specs.Rows.{RowsRight}
+use Rattle.rows.specs.Rows.{RowsRight}
 use Rattle.settings.specs.Route.{Each}
 use Rattle.layers.specs.Spreading.{goalWith}
-use Rattle.layers.proofs.Bounds.{settings-count}
+use Rattle.settings.proofs.SettingWalk.{settings-count}
 use Rattle.layers.proofs.GoalLaws.{goal-there, goal-nowhere}
 use Rattle.layers.proofs.goals.has_goal.Statement.{statement}
 use Rattle.layers.proofs.goals.has_goal.Tie as tie

@@ -6,9 +6,9 @@ use mathlib.Core.Logic.{inr}
 use Prim.Native.Nat.{ℕ, _*_, _-_, _≤_, _<_}
 use native.Mathlib.Omega.{arith}
 use lib.ListN.{length, getD, set, replicate, length-set, length-replicate}
-use Rattle.settings.specs.Rows.{RowsRight}
+use Rattle.rows.specs.Rows.{RowsRight}
 use Rattle.settings.specs.Route.{Each}
-use Rattle.layers.specs.Plans.{Starts}
+use Rattle.layers.specs.Spreading.{Starts}
 use Rattle.layers.proofs.Layering.{Forward, seen-start, forward-start, slot-sets, forward-next, met-goal, met-empty, met-nothing}
 use Rattle.layers.proofs.spread.find_layer.Statement.{statement}
 use Rattle.layers.proofs.spread.find_layer.Tie as tie

@@ -8,10 +8,10 @@ use native.Mathlib.Omega.{arith}
 use lib.ListN.{getD}
 use Rattle.model.specs.Network.{Network}
 use Rattle.settings.specs.Route.{Prepared, Each}
-use Rattle.settings.specs.Rows.{RowsRight, Lands}
+use Rattle.rows.specs.Rows.{RowsRight, Lands}
 use Rattle.layers.specs.Spreading.{Spread, SetsIn}
-use Rattle.layers.proofs.Bounds.{settings-count}
-use Rattle.layers.proofs.RowLaws.{lands-of, landing-of}
+use Rattle.settings.proofs.SettingWalk.{settings-count}
+use Rattle.rows.proofs.RowLaws.{lands-of, landing-of}
 use Rattle.layers.proofs.SpreadLaws.{spread-at}
 use Rattle.layers.proofs.Leaving.{LeftBelow, left-none, left-more, left-skip, left-all, left-start, sets-none, sets-more, sets-skip, sets-all, sets-start}
 use Rattle.layers.proofs.spread.spread_layer.Statement.{statement}

@@ -1,7 +1,7 @@
 -- `spread::spread_setting` meets its contract: where the choices lead, with the sets joined, is what leaves the setting.
 -- Assumes nothing.
 use mathlib.Core.Path.{refl}
-use Rattle.layers.proofs.RowLaws.{gain-read, gain-read-small, listed-small}
+use Rattle.rows.proofs.RowLaws.{gain-read, gain-read-small, listed-small}
 use Rattle.layers.proofs.SpreadLaws.{spread-leaving, leaving-sets}
 use borrow.Author.Needs.{needs}
 use Rattle.layers.proofs.spread.spread_setting.Statement.{statement}

@@ -3,7 +3,7 @@
 -- Assumes nothing.
 use Prim.Native.Nat.{_+_, _-_, _≤_}
 use native.Mathlib.Omega.{arith}
-use Rattle.settings.specs.Rows.{RowsRight}
+use Rattle.rows.specs.Rows.{RowsRight}
 use Rattle.planner.proofs.Writings.{turn-small, turn-lands, turn-choice, Counting, counting-none, counting-fits, counting-more, counting-all}
 use borrow.Author.Needs.{needs}
 use Rattle.planner.proofs.writer.text_length.Statement.{statement}

@@ -5,7 +5,7 @@ use mathlib.Core.Path.{_≡_}
 use Prim.Native.Nat.{ℕ, _-_}
 use native.Mathlib.Omega.{arith}
 use lib.ListN.{length, length-replicate}
-use Rattle.settings.specs.Rows.{RowsRight}
+use Rattle.rows.specs.Rows.{RowsRight}
 use Rattle.settings.proofs.PathMarks.{no-marks}
 use Rattle.settings.proofs.SettingWalk.{planned-targets}
 use Rattle.planner.proofs.Writings.{turn-small, turn-lands, turn-choice, Writing, writing-none, writing-room, writing-stops, writing-more, writing-all}

@@ -1,0 +1,2 @@
+-- What the contracts of the operations in turn cite.
+pub mod Operations

@@ -1,0 +1,2 @@
+-- What the contracts of an operation's line cite.
+pub mod Line

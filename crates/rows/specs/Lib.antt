@@ -1,0 +1,2 @@
+-- What the contracts of the table of rows cite.
+pub mod Rows

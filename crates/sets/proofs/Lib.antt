@@ -1,0 +1,2 @@
+-- Laws of sets of sets of targets.
+pub mod SetLaws

@@ -1,0 +1,2 @@
+-- What the contracts of the sets of sets of targets cite.
+pub mod Sets
