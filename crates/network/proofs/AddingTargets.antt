@@ -15,7 +15,7 @@ use borrow.Author.Tests.{eq-eqb, ne-eqb, le-leb, lt-leb, leb-true, not-false}
 use Rattle.model.specs.Result.{Result, ok, refused}
 use Rattle.model.specs.Network.{Node, segment, multiplexer, Target, read, write, at, noNode, hasShadow, lenOf, addressBits, tabulate, steers, steersAt, addressIn, isSteering}
 use Rattle.model.specs.NetworkText.{Draft, hasOut, isSome, badAddress, fitsTarget, sameTarget, isTarget, targetSegment, addFitting, addTarget, withTarget}
-use Rattle.model.proofs.Lists.{true-false, and-parts, or-left, or-right, eqb-same, tabulate-cong, tabulate-snoc}
+use Rattle.model.proofs.Lists.{true-false, and-false-right, and-true-right, and-parts, or-left, or-right, eqb-same, tabulate-cong, tabulate-snoc}
 use Rattle.model.proofs.Reading.{Stage, no-out, behind-out, sound-target}
 use Rattle.model.proofs.Accepted.{no-bad, unsteered-bits}
 use Rattle.path.specs.Layout.{nodeAt, wordWidth, wordBit}
@@ -54,19 +54,11 @@ module _ (ns : List ℕ) (t : Tally) (s : ℕ) (w : Bool) (bs : List Bool) where
   same-target : (i : ℕ) → sameTarget (targetAt ns t i) X ≡ sameWord (getD (t .«target_segment») i 0) (getD (t .«target_write») i 0) s w
   same-target i = go (eqb (getD (t .«target_write») i 0) 1) w (getD (t .«target_segment») i 0) _
     where
-      and-true : (a : Bool) → a ≡ (a && true)
-      and-true true = refl
-      and-true false = refl
-
-      and-false : (a : Bool) → false ≡ (a && false)
-      and-false true = refl
-      and-false false = refl
-
       go : (b w : Bool) (seg : ℕ) (cs : List Bool) → sameTarget (cond b (write seg cs) (read seg)) (targetFor w s bs) ≡ (eqb seg s && Bool·beq b w)
-      go true true seg cs = and-true (eqb seg s)
-      go true false seg cs = and-false (eqb seg s)
-      go false true seg cs = and-false (eqb seg s)
-      go false false seg cs = and-true (eqb seg s)
+      go true true seg cs = sym (and-true-right (eqb seg s))
+      go true false seg cs = sym (and-false-right (eqb seg s))
+      go false true seg cs = sym (and-false-right (eqb seg s))
+      go false false seg cs = sym (and-true-right (eqb seg s))
 
   split : (i : ℕ) → i < t .«target_count» → From i ≡ targetAt ns t i ∷ From (i + 1)
   split i l =

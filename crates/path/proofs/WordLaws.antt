@@ -8,7 +8,7 @@ use Prim.Native.Nat.{ℕ, zero, suc, _+_, _-_, _*_, _/_, _%_, _^_, _<_, _≤_}
 use native.Mathlib.Nat.{mul-assoc, add-mul, pow-suc, div-one, zero-div, sub-self, zero-add}
 use native.Mathlib.Numerals.{add-one, one-add}
 use native.Mathlib.Omega.{arith}
-use borrow.Author.Tests.{eqb-true, eqb-false, eq-eqb}
+use borrow.Author.Tests.{eqb-true, eqb-false, eq-eqb, ne-eqb}
 use lib.Arith.{digits-lt}
 use lib.Bits.{bitAnd, bitOr, and-mask, or-shifted, or-shifted-r, shifted-half}
 use lib.Dec.{eqb}
@@ -26,6 +26,11 @@ use Rattle.path.specs.Words.{wordOf, shiftIn}
 pub value-small : (b : Bool) → bitValue b < 2
 value-small true = omega arith
 value-small false = omega arith
+
+-- a bit told as a number
+pub value-is : (b : Bool) (m : ℕ) → m ≡ bitValue b → eqb m 1 ≡ b
+value-is true m e = eq-eqb m 1 e
+value-is false m e = ne-eqb m 1 (λ z. omega arith)
 
 -- a number below 2 is the value of a bit
 number-bit : (n : ℕ) → n < 2 → bitValue (eqb n 1) ≡ n

@@ -9,7 +9,7 @@ use native.Mathlib.Decide.{decLt}
 use borrow.Author.Tests.{ne-eqb, eqb-true}
 use lib.Bits.{bitAnd, bitOr, and-mask, or-lt}
 use lib.Dec.{eqb}
-use Rattle.model.proofs.Lists.{true-false, eqb-same, or-left, or-right, and-parts, and-false-right}
+use Rattle.model.proofs.Lists.{true-false, eqb-same, or-left, or-right, and-parts, and-false-right, and-true-right}
 use Rattle.path.specs.Layout.{wordBit}
 use Rattle.path.proofs.WordLaws.{zero-bit}
 use Rattle.network.proofs.Nodes.{wordBit-or, wordBit-pow, or-false}
@@ -90,10 +90,6 @@ pub record KeptBelow (sets g all n r : ℕ) : Type 0 where
 pub kept-none : (sets g all : ℕ) → KeptBelow sets g all 0 0
 kept-none sets g all = record { below = λ m lt. absurd (omega arith); beyond = λ m a b. zero-bit m }
 
-and-true : (a : Bool) → (a && true) ≡ a
-and-true true = refl
-and-true false = refl
-
 pub kept-more : (sets g all n r q : ℕ) → n < 16 → KeptAt r sets g all n q → KeptBelow sets g all n r → KeptBelow sets g all (n + 1) q
 kept-more sets g all n r q lt at p = record { below = below; beyond = λ m a b. other m b (λ z. omega arith) ∙ p .beyond m (omega arith) b }
   where
@@ -107,7 +103,7 @@ kept-more sets g all n r q lt at p = record { below = below; beyond = λ m a b. 
     below m less = elim (decLt m n) [
       | yes h ↦ other m (omega arith) (λ z. omega arith) ∙ p .below m h
       | no h ↦ let z : m ≡ n = omega arith in
-          rw z (at n lt ∙ ap (λ (v : Bool). v || (t && eqb n n)) (p .beyond n (omega arith) lt) ∙ ap (λ (v : Bool). t && v) (eqb-same n) ∙ and-true t)
+          rw z (at n lt ∙ ap (λ (v : Bool). v || (t && eqb n n)) (p .beyond n (omega arith) lt) ∙ ap (λ (v : Bool). t && v) (eqb-same n) ∙ and-true-right t)
     ]
 
 pub kept-all : (sets g all n r : ℕ) → 16 ≤ n → KeptBelow sets g all n r → (m : ℕ) → m < 16 → wordBit r m ≡ (wordBit sets m && wordBit all (bitOr m g))

@@ -2,7 +2,7 @@
 -- the path, and the targets on it.
 -- Assumes nothing.
 use mathlib.Core.Path.{_≡_, sym, ap, _∙_}
-use mathlib.Core.Bool.{Bool, true, false, cond}
+use mathlib.Core.Bool.{cond}
 use mathlib.Core.List.{List}
 use Prim.Native.Nat.{ℕ, suc, _+_, _*_, _-_, _/_, _%_, _^_, _≤_, _<_}
 use native.Mathlib.Nat.{pow-suc, pow-le-pow-right, div-div-eq-div-mul, sub-self}
@@ -12,6 +12,7 @@ use lib.ListN.{getD}
 use borrow.Author.Tests.{eq-eqb, ne-eqb}
 use Rattle.model.specs.Network.{tabulate}
 use Rattle.model.specs.Path.{ScanPath, bitValue, on}
+use Rattle.path.proofs.WordLaws.{value-is}
 use Rattle.network.specs.declared.draft.Tally.{Tally}
 use Rattle.network.specs.Draws.{Tame, targetAt}
 use Rattle.network.proofs.Records.{segment-at}
@@ -31,11 +32,6 @@ digit-on m d e = (rw (eq-eqb m 1 e), omega arith)
 
 pub digit-off : (m x j w : ℕ) → (m ≡ 1 → ⊥) → w ≡ 3 ^ j → (x / w % 3 ≡ cond (eqb m 1) 0 (x / 3 ^ j % 3)) × (x / w % 3 ≤ 2)
 digit-off m x j w ne e = (rw (ne-eqb m 1 ne) (ap (λ (n : ℕ). x / n % 3) e), omega arith)
-
--- a segment's mark tells whether it is on the path
-mark-on : (t : Bool) (m : ℕ) → m ≡ bitValue t → eqb m 1 ≡ t
-mark-on true m e = eq-eqb m 1 e
-mark-on false m e = ne-eqb m 1 (λ z. omega arith)
 
 -- one digit more
 more-digits : (b k j : ℕ) → 0 < j → j ≤ k → b ^ (k - (j - 1)) ≡ b ^ (k - j) * b
@@ -67,7 +63,7 @@ module _ (marks segments : List ℕ) (k : ℕ) (few : k ≤ 6) (x : ℕ) where
           passed = omega (arith, b .passed);
           is = λ p m places.
               let here : d ≡ cond (on p (getD segments (j - 1) 0)) 0 (x / 3 ^ (j - 1) % 3) =
-              e ∙ rw (mark-on (on p (getD segments (j - 1) 0)) (getD marks (getD segments (j - 1) 0) 0) (m (getD segments (j - 1) 0) within)) in
+              e ∙ rw (value-is (on p (getD segments (j - 1) 0)) (getD marks (getD segments (j - 1) 0) 0) (m (getD segments (j - 1) 0) within)) in
               rw (front (pairAt segments places) k j lt (b .passed), next) (omega (arith, here, b .is p m places));
           small = omega (arith, b .small, more-digits 3 k j lt (b .passed));
         }

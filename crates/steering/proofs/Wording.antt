@@ -12,7 +12,7 @@ use lib.Dec.{eqb, ltb}
 use lib.ListN.{length, getD, set, length-set}
 use lib.Seq.{getD-set-same, getD-set-other}
 use borrow.Author.Tests.{eq-eqb}
-use Rattle.model.proofs.Lists.{getD-tabulate, eqb-same, eqb-is, true-false, or-false-right}
+use Rattle.model.proofs.Lists.{getD-tabulate, eqb-same, eqb-is, true-false, or-false-right, and-true-right}
 use Rattle.path.specs.Layout.{wordBit, lookIn}
 use Rattle.path.specs.Answers.{ConfigSized}
 use Rattle.path.proofs.WordLaws.{zero-bit}
@@ -57,10 +57,6 @@ no-more : (a b : Bool) → (a || (b && false)) ≡ a
 no-more true b = refl
 no-more false true = refl
 no-more false false = refl
-
-and-true : (b : Bool) → (b && true) ≡ b
-and-true true = refl
-and-true false = refl
 
 module _ (bits known : List ℕ) (s b d : ℕ) (z : ConfigSized bits known) where
   pub digit-unknown : d ≡ 2 → DigitSet bits known s b d bits known
@@ -137,12 +133,12 @@ module _ (pb : Problem) (ls : Listed pb) where
     word-new : wordBit (getD bits′ (getD (pb .segments) j 0) 0) (getD (pb .places) j 0) ≡ eqb (y % 3) 1
     word-new =
         q .words (getD (pb .segments) j 0) (getD (pb .places) j 0) (ls .within j lt) (ls .inside j lt)
-        ∙ rw (p .words j (omega arith) lt, eqb-same (getD (pb .segments) j 0), eqb-same (getD (pb .places) j 0)) (and-true (eqb (y % 3) 1))
+        ∙ rw (p .words j (omega arith) lt, eqb-same (getD (pb .segments) j 0), eqb-same (getD (pb .places) j 0)) (and-true-right (eqb (y % 3) 1))
 
     mark-new : wordBit (getD known′ (getD (pb .segments) j 0) 0) (getD (pb .places) j 0) ≡ ltb (y % 3) 2
     mark-new =
         q .marks (getD (pb .segments) j 0) (getD (pb .places) j 0) (ls .within j lt) (ls .inside j lt)
-        ∙ rw (p .marks j (omega arith) lt, eqb-same (getD (pb .segments) j 0), eqb-same (getD (pb .places) j 0)) (and-true (ltb (y % 3) 2))
+        ∙ rw (p .marks j (omega arith) lt, eqb-same (getD (pb .segments) j 0), eqb-same (getD (pb .places) j 0)) (and-true-right (ltb (y % 3) 2))
 
     pub setting-more : Setting pb x (j + 1) bits′ known′ (y / 3)
     setting-more = record {

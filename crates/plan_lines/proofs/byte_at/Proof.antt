@@ -6,7 +6,8 @@ use borrow.Author.Needs.{needs}
 use lib.Dec.{eqb}
 use Rattle.model.specs.Tap.{bitByte}
 use Rattle.path.specs.Layout.{wordBit}
-use Rattle.plan_lines.proofs.Digits.{bit-is, bit-set, bit-clear}
+use Rattle.plan_lines.proofs.Digits.{bit-set, bit-clear}
+use Rattle.path.proofs.WordLaws.{value-is}
 use Rattle.plan_lines.proofs.byte_at.Statement.{statement}
 use Rattle.plan_lines.proofs.byte_at.Tie as tie
 
@@ -37,7 +38,7 @@ returns-2 c =
     let bit = c .before .before .before in
     let a = bit .before .args in
     c .byte-of2 .ensures
-    ∙ ap bitByte (bit-is (wordBit (a .want) (a .b)) _ (c .before .bit-at2 .ensures) ∙ bit-clear (wordBit (a .steer) (a .b)) _ (bit .bit-at .ensures) _ _ (c .before .before .if1 .left))
+    ∙ ap bitByte (value-is (wordBit (a .want) (a .b)) _ (c .before .bit-at2 .ensures) ∙ bit-clear (wordBit (a .steer) (a .b)) _ (bit .bit-at .ensures) _ _ (c .before .before .if1 .left))
 
 pub byte-at-spec : {M : Type 1} → statement M
 byte-at-spec =
