@@ -8,7 +8,8 @@ use native.Mathlib.Omega.{arith}
 use native.Mathlib.Nat.{zero-add}
 use native.Mathlib.Numerals.{add-one}
 use lib.Dec.{eqb}
-use lib.ListN.{length, set, replicate, length-append}
+use lib.ListN.{length, set, replicate, length-append, length-replicate, getD-replicate}
+use lib.Seq.{getD-set-other}
 use Rattle.model.specs.Network.{Network, tabulate, steers}
 use Rattle.model.specs.Path.{ScanPath, pathLength}
 use Rattle.model.specs.Plan.{wanted}
@@ -17,10 +18,10 @@ use Rattle.model.proofs.Lists.{length-tabulate, tabulate-snoc}
 use Rattle.path.specs.Layout.{wordBit}
 use Rattle.path.proofs.WordLaws.{zero-bit}
 use Rattle.plan_text.specs.Writing.{writeAt}
-use Rattle.plan_text.proofs.Writing.{write-none, write-more, write-behind}
+use Rattle.plan_text.proofs.Writing.{write-none, write-more, write-behind, write-same}
 use Rattle.search.specs.Choices.{placesOf, bitAt, leftAt, bitsFrom, leftAfter}
 use Rattle.search.proofs.Choices.{bits-append, left-append, bits-more, left-more}
-use Rattle.plan_lines.specs.Line.{WordsOf, segmentPlaces, BitsPut, SegmentPut}
+use Rattle.plan_lines.specs.Line.{WordsOf, segmentPlaces, BitsPut, ZerosFrom, KeptFrom, SegmentPut}
 
 -- ---- lengths
 
@@ -85,6 +86,10 @@ pub segment-more : (s i : ℕ) → segmentPlaces s (i + 1) ≡ segmentPlaces s i
 segment-more s i =
     ap (segmentPlaces s) (add-one i) ∙ tabulate-snoc {A = ℕ × ℕ} (λ b. (s, b)) 0 i ∙ ap (λ (k : ℕ). segmentPlaces s i ++ (s, k) ∷ []) (zero-add i)
 
+-- a byte before those that are kept
+pub kept-more : (from i v : ℕ) (old buf : List ℕ) → i < from → KeptFrom from old buf → KeptFrom from old (set buf i v)
+kept-more from i v old buf l p k m = getD-set-other buf i k v 0 (λ z. omega arith) ∙ p k m
+
 -- the first i of a segment's len bits are put
 abbrev pub SegmentPutting : ℕ → ℕ → ℕ → ℕ → ℕ → ℕ → List ℕ → ℕ → ℕ → List ℕ → Type 0
 SegmentPutting at len steer want h c old i left buf = (net : Network) (s : ℕ) → WordsOf net s len steer want → BitsPut net (segmentPlaces s i) at h c old left buf
@@ -106,7 +111,7 @@ module _ (at len steer want h c : ℕ) (old : List ℕ) where
       let e : i ≡ len = omega arith in
       subst (λ (k : ℕ). BitsPut net (segmentPlaces s k) at h c old left buf) e (p net s w)
 
--- ---- a segment of which no bit steers, with no bit to write
+-- ---- a segment of which no bit steers, with no bit to write: its bytes are `0`
 
 module _ (net : Network) (s len : ℕ) (w : WordsOf net s len 0 0) (h c : ℕ) where
   not-steering : (b : ℕ) → b < len → steers (net .nodes) s b ≡ false
@@ -126,10 +131,12 @@ module _ (net : Network) (s len : ℕ) (w : WordsOf net s len 0 0) (h c : ℕ) w
   none-taken (suc n) b l =
       ap (λ (t : Bool). leftAfter net (tabulate (λ i. (s, i)) (suc b) n) (cond t (h / 2) h)) (not-steering b (omega arith)) ∙ none-taken n (suc b) (omega arith)
 
-pub zeros-put : (at len steer want h c : ℕ) (old new : List ℕ) → steer ≡ 0 → want ≡ 0 → new ≡ writeAt at (replicate len 48) old → SegmentPut at len steer want h c old h new
-zeros-put at len steer want h c old new a b e net s w =
+pub zeros-stay : (at len steer want h c : ℕ) (old : List ℕ) → at + len ≤ length old → ZerosFrom old at len → steer ≡ 0 → want ≡ 0 → SegmentPut at len steer want h c old h old
+zeros-stay at len steer want h c old fits zeros a b net s w =
     let z : WordsOf net s len 0 0 = rw (a, b) at w in
+    let n : length {A = ℕ} (replicate len 48) ≡ len = length-replicate {A = ℕ} len 48 in
+    let e : writeAt at (replicate len 48) old ≡ old = write-same at (replicate len 48) old (omega arith) (λ k l. zeros k (omega arith) ∙ sym (getD-replicate len k 48 0 (omega arith))) in
     record {
       left = sym (none-taken net s len z h c len 0 (omega arith));
-      holds = e ∙ ap (λ (l : List ℕ). writeAt at l old) (sym (zero-bytes net s len z h c len 0 (omega arith)));
+      holds = sym e ∙ ap (λ (l : List ℕ). writeAt at l old) (sym (zero-bytes net s len z h c len 0 (omega arith)));
     }

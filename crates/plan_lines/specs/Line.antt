@@ -46,6 +46,14 @@ pub record BitsPut (net : Network) (qs : List (ℕ × ℕ)) (at h c : ℕ) (old 
   pub left : r ≡ leftAfter net qs h
   pub holds : new ≡ writeAt at (map bitByte (bitsFrom net qs h c)) old
 
+-- as many `0` stand in the buffer from a place on
+abbrev pub ZerosFrom : List ℕ → ℕ → ℕ → Type 0
+ZerosFrom buf at n = (k : ℕ) → k < n → getD buf (at + k) 0 ≡ 48
+
+-- the bytes from a place on are as they were
+abbrev pub KeptFrom : ℕ → List ℕ → List ℕ → Type 0
+KeptFrom at old new = (k : ℕ) → at ≤ k → getD new k 0 ≡ getD old k 0
+
 abbrev pub SegmentPut : ℕ → ℕ → ℕ → ℕ → ℕ → ℕ → List ℕ → ℕ → List ℕ → Type 0
 SegmentPut at len steer want h c old r new = (net : Network) (s : ℕ) → WordsOf net s len steer want → BitsPut net (segmentPlaces s len) at h c old r new
 

@@ -7,6 +7,7 @@ use path::layout::Word;
 use path::layout::Words;
 use path::layout::segment_len;
 use path::layout::wide;
+use path::places::path_length;
 use path::words::bit_at;
 use plan_text::put;
 use plan_text::put_zeros;
@@ -20,7 +21,7 @@ ghost use Rattle.model.specs.Tap.{bitByte};
 ghost use Rattle.path.specs.Layout.{wordWidth, wordBit, scanPath};
 ghost use Rattle.network.specs.Draws.{Tame};
 ghost use Rattle.settings.specs.Route.{Blank, TargetsWithin};
-ghost use Rattle.plan_lines.specs.Line.{wantsWith, WantsOf, SegmentPut, HasRoom, OperationPut, LinePut};
+ghost use Rattle.plan_lines.specs.Line.{wantsWith, WantsOf, ZerosFrom, KeptFrom, SegmentPut, HasRoom, OperationPut, LinePut};
 
 // The bits of a target, by its segment and its word, become its segment's word in wants if it is a write target.
 fn want_target(segment: u16, word: u16, bits: Word, wants: &mut Words)
@@ -104,6 +105,7 @@ fn put_bits(
 ) -> usize
     requires { ⌜ (len ≤ wordWidth) × (at + len ≤ length (now plan)) ⌝ }
     ensures { λ r. ⌜ SegmentPut at len steer want h c (now (plan .entry)) r (now (plan .exit)) ⌝ }
+    ensures { λ _. ⌜ KeptFrom (at + len) (now (plan .entry)) (now (plan .exit)) ⌝ }
 {
     let mut left = h;
     let mut b: usize = 0;
@@ -115,8 +117,8 @@ fn put_bits(
     left
 }
 
-// The bytes of the len bits of a segment, written from a place on; what is left of h. Most segments have neither steering bits nor a
-// write target, so that all their bytes are `0`.
+// The same where `0` stands for each of the bits. Most segments have neither steering bits nor a write target, so that nothing is
+// left to write.
 fn put_segment(
     plan: &mut [u8],
     at: usize,
@@ -127,19 +129,19 @@ fn put_segment(
     c: usize,
 ) -> usize
     requires { ⌜ (len ≤ wordWidth) × (at + len ≤ length (now plan)) ⌝ }
+    requires { ⌜ ZerosFrom (now plan) at len ⌝ }
     ensures { λ r. ⌜ SegmentPut at len steer want h c (now (plan .entry)) r (now (plan .exit)) ⌝ }
+    ensures { λ _. ⌜ KeptFrom (at + len) (now (plan .entry)) (now (plan .exit)) ⌝ }
 {
-    if steer != 0 {
-        return put_bits(plan, at, len, steer, want, h, c);
+    if steer == 0 {
+        if want == 0 {
+            return h;
+        }
     }
-    if want != 0 {
-        return put_bits(plan, at, len, steer, want, h, c);
-    }
-    put_zeros(plan, at, len);
-    h
+    put_bits(plan, at, len, steer, want, h, c)
 }
 
-// The bytes of an operation along the path whose n segments way holds, written from a place on; the place behind them.
+// The bytes of an operation along the path whose n segments way holds, written over as many `0` from a place on; the place behind them.
 fn put_operation<'a>(
     nodes: &'a Nodes,
     steering: &'a Words,
@@ -152,6 +154,7 @@ fn put_operation<'a>(
     c: usize,
 ) -> usize
     requires { ⌜ HasRoom (now nodes) (now way) n at (now plan) ⌝ }
+    requires { ⌜ ZerosFrom (now plan) at (pathLength (scanPath (now nodes) (take n (now way)))) ⌝ }
     ensures { λ r. ⌜ r ≡ at + pathLength (scanPath (now (nodes .entry)) (take n (now (way .entry)))) ⌝ }
     ensures { λ _. ⌜ OperationPut (now (nodes .entry)) (now (steering .entry)) (now (wants .entry)) (now (way .entry)) n at h c (now (plan .entry)) (now (plan .exit)) ⌝ }
 {
@@ -185,6 +188,7 @@ pub fn put_line<'a>(
     ensures { λ _. ⌜ LinePut (now (nodes .entry)) (now (steering .entry)) (now (wants .entry)) (now (way .entry)) n at h c (now (plan .entry)) (now (plan .exit)) ⌝ }
 {
     let start = put(plan, at, b"csu\t");
+    put_zeros(plan, start, path_length(nodes, way, n));
     let end = put_operation(nodes, steering, wants, way, n, plan, start, h, c);
     put(plan, end, b"\n")
 }

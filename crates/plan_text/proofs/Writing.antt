@@ -7,8 +7,8 @@ use Prim.Native.Nat.{ℕ, suc, _+_, _≤_, _<_}
 use native.Mathlib.Omega.{arith}
 use native.Mathlib.Nat.{add-zero, zero-add}
 use native.Mathlib.Numerals.{add-one}
-use lib.ListN.{length, take, drop, set, getD, replicate, length-append, length-drop, length-replicate, take-append-drop, replicate-append-replicate}
-use lib.Seq.{length-take-le, take-suc, drop-cons, drop-drop, set-at, take-at, drop-at, take-all}
+use lib.ListN.{length, take, drop, set, getD, replicate, length-append, length-drop, length-replicate, take-append-drop, replicate-append-replicate, List·getD-append}
+use lib.Seq.{length-take-le, take-suc, drop-cons, drop-drop, set-at, take-at, drop-at, take-all, getD-append-add, getD-take, getD-drop, ext-getD}
 use Rattle.model.specs.Plan.{Plan}
 use Rattle.model.specs.PlanText.{writePlan}
 use Rattle.model.specs.Tap.{bitByte}
@@ -44,6 +44,37 @@ module _ (at : ℕ) (new old : List ℕ) (fits : at + length new ≤ length old)
       ∙ ap (drop (length more)) (drop-at (take at old ++ new) (drop (at + length new) old) _ front) ∙ drop-drop (length more) (at + length new) old
       ∙ ap (λ (k : ℕ). drop k old) (let n : at + length new + length more ≡ at + length (new ++ more) = omega (arith, length-append new more) in n) in
       rw (a, b) (simp append-assoc)
+
+  -- a second write of as many bytes to the same place
+  pub write-again : (again : List ℕ) → length again ≡ length new → writeAt at again (writeAt at new old) ≡ writeAt at again old
+  unfolding writeAt
+  write-again again e =
+      let whole = writeAt at new old in
+      let a : take at whole ≡ take at old = take-at (take at old) (new ++ drop (at + length new) old) at (length-take-le at old (omega arith)) in
+      let k : at + length again ≡ at + length new = omega arith in
+      let b : drop (at + length again) whole ≡ drop (at + length again) old =
+      rw k (ap (drop (at + length new)) split ∙ drop-at (take at old ++ new) (drop (at + length new) old) _ front) in
+      rw (a, b)
+
+  -- what is written
+  pub write-at : (k : ℕ) → k < length new → getD (writeAt at new old) (at + k) 0 ≡ getD new k 0
+  unfolding writeAt
+  write-at k l =
+      let n : at ≡ length (take at old) = sym (length-take-le at old (omega arith)) in
+      ap (λ (i : ℕ). getD (writeAt at new old) (i + k) 0) n ∙ getD-append-add (take at old) (new ++ drop (at + length new) old) k 0
+      ∙ List·getD-append new (drop (at + length new) old) 0 k l
+
+  -- what is there already
+  pub write-same : ((k : ℕ) → k < length new → getD old (at + k) 0 ≡ getD new k 0) → writeAt at new old ≡ old
+  unfolding writeAt
+  write-same h =
+      let n : length (take (length new) (drop at old)) ≡ length new = length-take-le (length new) (drop at old) (omega (arith, length-drop at old)) in
+      let e : new ≡ take (length new) (drop at old) =
+      ext-getD 0 new (take (length new) (drop at old)) (sym n) (λ k l. sym (h k l) ∙ sym (getD-take (length new) (drop at old) k 0 l ∙ getD-drop at old k 0)) in
+      let d : drop (at + length new) old ≡ drop (length new) (drop at old) = sym (drop-drop (length new) at old) in
+      ap (λ (l : List ℕ). take at old ++ l) (ap (λ (l : List ℕ). l ++ drop (at + length new) old) e ∙ ap (λ (l : List ℕ). take (length new) (drop at old) ++ l) d
+      ∙ take-append-drop (length new) (drop at old))
+      ∙ take-append-drop at old
 
 -- three writes, each behind the one before it
 pub write-three : {x y z : List ℕ} (at second third : ℕ) (a b c old : List ℕ) → at + (length a + (length b + length c)) ≤ length old

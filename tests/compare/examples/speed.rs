@@ -7,23 +7,36 @@ use std::time::{Duration, Instant};
 use penthluk_compare::expected::{count_numbers, mark_numbers};
 use penthluk_compare::{clocks, mark, plan, read, read_line};
 use penthluk_reference::clocks::write_clocks;
+use penthluk_reference::generate::draft::Draft;
 use penthluk_reference::generate::edges::plan_line;
 use penthluk_reference::generate::large::full;
+use penthluk_reference::generate::maze::maze;
+use penthluk_reference::generate::random::Random;
 use penthluk_reference::generate::rounds::many_rounds;
+use penthluk_reference::generate::sib::{sib_tree, Size};
+use penthluk_reference::generate::tiny::tiny;
 use penthluk_reference::limits::{MAX_PLAN_BYTES, SEARCH_ENTRIES};
 use penthluk_reference::marker;
 use penthluk_reference::planner::make_plan;
 use penthluk_reference::programs;
 use penthluk_reference::reader::read_network;
 
+/// How often a case is run.
+struct Rounds {
+    rounds: usize,
+    calls: usize,
+}
+
 /// Many short rounds: the least time is then one that nothing else on the machine disturbed.
-const ROUNDS: usize = 400;
-const CALLS: usize = 10;
+const SHORT: Rounds = Rounds { rounds: 400, calls: 10 };
+
+/// A case that is many calls in itself.
+const LONG: Rounds = Rounds { rounds: 25, calls: 1 };
 
 /// The time of a round of calls.
-fn round(call: &mut dyn FnMut()) -> Duration {
+fn round(calls: usize, call: &mut dyn FnMut()) -> Duration {
     let start = Instant::now();
-    for _ in 0..CALLS {
+    for _ in 0..calls {
         call();
     }
     start.elapsed()
@@ -31,13 +44,19 @@ fn round(call: &mut dyn FnMut()) -> Duration {
 
 /// Prints the least time of some rounds of the proved call, its bytes a second and its ratio to the
 /// least time of the plain call. The rounds of the two take turns.
-fn compare(name: &str, bytes: usize, mut proved: impl FnMut(), mut plain: impl FnMut()) {
+fn compare(
+    name: &str,
+    bytes: usize,
+    Rounds { rounds, calls }: Rounds,
+    mut proved: impl FnMut(),
+    mut plain: impl FnMut(),
+) {
     let mut least = [Duration::MAX; 2];
-    for _ in 0..ROUNDS {
-        least[0] = least[0].min(round(&mut proved));
-        least[1] = least[1].min(round(&mut plain));
+    for _ in 0..rounds {
+        least[0] = least[0].min(round(calls, &mut proved));
+        least[1] = least[1].min(round(calls, &mut plain));
     }
-    let [proved, plain] = least.map(|time| time.as_secs_f64() / CALLS as f64);
+    let [proved, plain] = least.map(|time| time.as_secs_f64() / calls as f64);
     println!(
         "{name}: {bytes} bytes, {:.1} us a call, {:.0} MB/s, plain {:.1} us, ratio {:.2}",
         proved * 1e6,
@@ -128,7 +147,7 @@ fn readings() {
         assert_eq!(read_line(read(&text)), programs::read(&text));
         let proved = || _ = black_box(read(black_box(&text)));
         let plain = || _ = black_box(read_network(black_box(&text)));
-        compare(name, text.len(), proved, plain);
+        compare(name, text.len(), SHORT, proved, plain);
     }
 }
 
@@ -144,7 +163,7 @@ fn marks() {
         assert_eq!(numbers[0], 0, "{name}");
         let proved = || _ = black_box(mark(black_box(&network), black_box(&plan)));
         let plain = || _ = black_box(marker::mark(black_box(&network), black_box(&plan)));
-        compare(name, network.len() + plan.len(), proved, plain);
+        compare(name, network.len() + plan.len(), SHORT, proved, plain);
     }
 }
 
@@ -162,7 +181,7 @@ fn clock_writings() {
         let proved = || _ = black_box(clocks(black_box(&plan), &mut tms, &mut tdi));
         let plain =
             || _ = black_box(write_clocks(black_box(&plan), &mut plain_tms, &mut plain_tdi));
-        compare(name, plan.len(), proved, plain);
+        compare(name, plan.len(), SHORT, proved, plain);
     }
 }
 
@@ -186,7 +205,40 @@ fn plans() {
         let proved = || _ = black_box(plan(black_box(&network), &mut search, &mut bytes));
         let plain =
             || _ = black_box(make_plan(black_box(&network), &mut plain_search, &mut plain_bytes));
-        compare(name, network.len() + numbers[1], proved, plain);
+        compare(name, network.len() + numbers[1], SHORT, proved, plain);
+    }
+}
+
+/// A thousand networks that are drawn.
+fn drawn(seed: u64, draw: impl Fn(&mut Random) -> Draft) -> Vec<Vec<u8>> {
+    let random = &mut Random::new(seed);
+    (0..1_000).map(|_| draw(random).text()).collect()
+}
+
+/// Whole sets of small networks, many of them refused.
+fn sets_of_plans() {
+    for (name, networks) in [
+        ("plan, 1,000 tiny networks", drawn(1, |random| tiny(random, 7))),
+        (
+            "plan, 1,000 trees of SIBs",
+            drawn(2, |random| sib_tree(random, Size { depth: 6, sibs: 6, len: 32 })),
+        ),
+        ("plan, 1,000 trees of multiplexers", drawn(3, |random| maze(random, 3, 4))),
+    ] {
+        let [mut search, mut plain_search] = [(); 2].map(|_| vec![0; SEARCH_ENTRIES]);
+        let [mut bytes, mut plain_bytes] = [(); 2].map(|_| vec![0; MAX_PLAN_BYTES]);
+        let size = networks.iter().map(Vec::len).sum();
+        let proved = || {
+            for network in &networks {
+                black_box(plan(black_box(network), &mut search, &mut bytes));
+            }
+        };
+        let plain = || {
+            for network in &networks {
+                _ = black_box(make_plan(black_box(network), &mut plain_search, &mut plain_bytes));
+            }
+        };
+        compare(name, size, LONG, proved, plain);
     }
 }
 
@@ -195,4 +247,5 @@ fn main() {
     marks();
     clock_writings();
     plans();
+    sets_of_plans();
 }

@@ -4,7 +4,7 @@ use Prim.Native.Nat.{_≤_, _-_}
 use native.Mathlib.Omega.{arith}
 use borrow.Author.Needs.{needs}
 use Rattle.path.proofs.PathLaws.{SegmentOn, segment-on}
-use Rattle.plan_lines.proofs.PutOperation.{Putting, operation-none, segment-fits, operation-more, operation-place, operation-all}
+use Rattle.plan_lines.proofs.PutOperation.{Putting, operation-none, segment-fits, segment-zeros, operation-more, operation-place, operation-all}
 use Rattle.plan_lines.proofs.put_operation.Statement.{statement}
 use Rattle.plan_lines.proofs.put_operation.Tie as tie
 
@@ -17,16 +17,16 @@ abbrev μ-loop : tie.MeasureT-loop
 -- the segment of this turn
 this : (c : tie.After-wide Inv-loop μ-loop)
     → let s = c .before .before .before .before .before in SegmentOn (s .args .nodes .now) (s .args .way .now) (s .args .n) (c .before .before .before .loop .i) (c .wide .result)
-this c = segment-on _ _ _ (c .before .before .before .before .before .pre .holds) _ _ (c .before .before .loop-test .taken) (c .wide .ensures)
+this c = segment-on _ _ _ (c .before .before .before .before .before .pre .0 .holds) _ _ (c .before .before .loop-test .taken) (c .wide .ensures)
 
 loop-holds : tie.Need-loop-holds Inv-loop μ-loop
-loop-holds c = (search needs, operation-none _ _ _ _ _ _ _ _ _)
+loop-holds c = (search needs, operation-none _ _ _ _ _ _ _ _ _ (c .before .pre .1))
 
 mul-wide : tie.Need-mul-wide Inv-loop μ-loop
-mul-wide c = omega (arith, c .before .before .before .pre .holds .count)
+mul-wide c = omega (arith, c .before .before .before .pre .0 .holds .count)
 
 element-copy-out-wide : tie.Need-element-copy-out-wide Inv-loop μ-loop
-element-copy-out-wide c = omega (arith, c .before .before .before .pre .holds .count)
+element-copy-out-wide c = omega (arith, c .before .before .before .pre .0 .holds .count)
 
 wide-requires : tie.Need-wide-requires Inv-loop μ-loop
 wide-requires c κs = search needs
@@ -51,13 +51,14 @@ put-segment-requires c κs =
     let w = c .before .before .before .before in
     let l = w .before .before .before in
     let len = c .before .before .before .segment-len in
-    (omega (arith, this w .most, len .ensures), segment-fits (l .loop .inv .1) (l .before .before .pre) _ _ (this w) (len .ensures))
+    let r = l .before .before .pre .0 in
+    ((omega (arith, this w .most, len .ensures), segment-fits (l .loop .inv .1) r _ _ (this w) (len .ensures)), segment-zeros (l .loop .inv .1) r _ _ (this w) (len .ensures))
 
 add-place : tie.Need-add-place Inv-loop μ-loop
 add-place c =
     let w = c .before .before .before .before .before .before .before in
     let l = w .before .before .before in
-    omega (arith, segment-fits (l .loop .inv .1) (l .before .before .pre) _ _ (this w) (c .before .before .before .before .before .before .segment-len .ensures))
+    omega (arith, segment-fits (l .loop .inv .1) (l .before .before .pre .0) _ _ (this w) (c .before .before .before .before .before .before .segment-len .ensures))
 
 add-i : tie.Need-add-i Inv-loop μ-loop
 add-i c = search needs
@@ -71,8 +72,8 @@ loop-again c =
     let w = len .before in
     let l = w .before .before .before in (
       search needs,
-      operation-more (l .loop .inv .1) (l .before .before .pre) _ _ (this w) (len .segment-len .ensures) (w .before .before .loop-test .taken) (w .wide .ensures)
-          _ _ (search needs) (c .before .before .put-segment .ensures),
+      operation-more (l .loop .inv .1) (l .before .before .pre .0) _ _ (this w) (len .segment-len .ensures) (w .before .before .loop-test .taken) (w .wide .ensures)
+          _ _ (search needs) (c .before .before .put-segment .ensures .0) (c .before .before .put-segment .ensures .1),
     )
 
 same-length : tie.Need-same-length Inv-loop μ-loop
@@ -81,7 +82,7 @@ same-length c = c .before .loop .inv .1 .size
 returns : tie.Need-returns Inv-loop μ-loop
 returns c =
     let l = c .before in
-    let r = l .before .before .pre in
+    let r = l .before .before .pre .0 in
     (operation-place (l .loop .inv .1) r (l .loop .inv .0) (c .loop-test .left), operation-all (l .loop .inv .1) r (l .loop .inv .0) (c .loop-test .left))
 
 pub put-operation-spec : {M : Type 1} → statement M

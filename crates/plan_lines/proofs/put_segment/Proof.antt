@@ -1,9 +1,15 @@
 -- `plan_lines::put_segment` meets its contract.
 -- Assumes nothing.
+use mathlib.Core.Path.{refl}
 use borrow.Author.Needs.{needs}
-use Rattle.plan_lines.proofs.PutBits.{zeros-put}
+use Rattle.plan_lines.proofs.PutBits.{zeros-stay}
 use Rattle.plan_lines.proofs.put_segment.Statement.{statement}
 use Rattle.plan_lines.proofs.put_segment.Tie as tie
+
+returns : tie.Need-returns
+returns c =
+    let p = c .before .before .before in
+    (zeros-stay _ _ _ _ _ _ _ (p .pre .0 .1) (p .pre .1) (c .before .if1 .taken) (c .if2 .taken), λ k l. refl)
 
 put-bits-requires : tie.Need-put-bits-requires
 put-bits-requires c κs = search needs
@@ -11,39 +17,8 @@ put-bits-requires c κs = search needs
 same-length : tie.Need-same-length
 same-length c = search needs
 
-returns : tie.Need-returns
-returns c = search needs
-
-put-bits-requires-2 : tie.Need-put-bits-requires-2
-put-bits-requires-2 c κs = search needs
-
-same-length-2 : tie.Need-same-length-2
-same-length-2 c = search needs
-
 returns-2 : tie.Need-returns-2
 returns-2 c = search needs
 
-put-zeros-requires : tie.Need-put-zeros-requires
-put-zeros-requires c κs = search needs
-
-same-length-3 : tie.Need-same-length-3
-same-length-3 c = search needs
-
-returns-3 : tie.Need-returns-3
-returns-3 c =
-    let a = c .before .before .before .before in
-    zeros-put _ _ _ _ _ _ _ _ (a .before .if1 .left) (a .if2 .left) (c .before .before .put-zeros .ensures .1)
-
 pub put-segment-spec : {M : Type 1} → statement M
-put-segment-spec =
-    tie.close
-    (tie.spec
-    put-bits-requires
-    same-length
-    returns
-    put-bits-requires-2
-    same-length-2
-    returns-2
-    put-zeros-requires
-    same-length-3
-    returns-3)
+put-segment-spec = tie.close (tie.spec returns put-bits-requires same-length returns-2)
