@@ -17,7 +17,7 @@ use Rattle.model.proofs.Accepted.{Accepted}
 use Rattle.model.proofs.Lists.{true-false, zero-at, and-false-right}
 use Rattle.path.specs.Layout.{wordBit}
 use Rattle.path.proofs.WordLaws.{zero-bit}
-use Rattle.network.proofs.Nodes.{wordBit-pow}
+use Rattle.path.proofs.WordTests.{wordBit-pow}
 use Rattle.search.specs.Moves.{allOf, count, gain, reached, sysOf}
 use Rattle.search.specs.Layers.{Earlier, Layers}
 use Rattle.search.proofs.Forward.{earlier-same, stepped-same, layers-same, layers-start, layers-next, layers-empty, nothing-up-to}

@@ -15,7 +15,7 @@ use Rattle.model.specs.Network.{Network, steeringBits}
 use Rattle.model.proofs.Lists.{true-false, or-left, or-right}
 use Rattle.path.specs.Layout.{wordBit}
 use Rattle.path.proofs.WordLaws.{zero-bit}
-use Rattle.network.proofs.Nodes.{wordBit-or, wordBit-pow}
+use Rattle.path.proofs.WordTests.{wordBit-or, wordBit-pow}
 use Rattle.search.specs.Moves.{count, reached, goes}
 use Rattle.layers.specs.Table.{layersOf, Known}
 use Rattle.layers.specs.Spreading.{Spread, Leaves, Next, SetsIn}

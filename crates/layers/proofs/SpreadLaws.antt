@@ -13,9 +13,9 @@ use lib.Dec.{eqb, ltb}
 use lib.ListN.{length, getD, set, length-set}
 use lib.Seq.{getD-set-same, getD-set-other}
 use Rattle.model.specs.Network.{Network}
-use Rattle.model.proofs.Lists.{or-left, or-right, and-both, and-parts}
+use Rattle.model.proofs.Lists.{or-left, or-right, and-both, and-parts, or-false-right}
 use Rattle.path.specs.Layout.{wordBit}
-use Rattle.network.proofs.Nodes.{wordBit-or, or-false}
+use Rattle.path.proofs.WordTests.{wordBit-or}
 use Rattle.search.specs.Moves.{count, gain, land}
 use Rattle.sets.specs.Sets.{Joined}
 use Rattle.layers.specs.Table.{inSlot, inSeen, OutOfSlot}
@@ -95,7 +95,7 @@ word-joined l j v k b lt = by (eqb j k) refl
   where
     by : (t : Bool) → eqb j k ≡ t → wordBit (getD (set l j (bitOr (getD l j 0) v)) k 0) b ≡ (wordBit (getD l k 0) b || (t && wordBit v b))
     by true e = rw (← (eqb-true j k e), getD-set-same l j (bitOr (getD l j 0) v) 0 lt) (wordBit-or (getD l j 0) v b)
-    by false e = rw (getD-set-other l j k (bitOr (getD l j 0) v) 0 (λ z. eqb-false j k e (sym z))) (or-false (wordBit (getD l k 0) b))
+    by false e = rw (getD-set-other l j k (bitOr (getD l j 0) v) 0 (λ z. eqb-false j k e (sym z))) (sym (or-false-right (wordBit (getD l k 0) b)))
 
 -- all of them were met there
 pub arrive-met : (i y got : ℕ) (tab seen : List ℕ) → length seen ≡ 729 → bitOr (getD seen y 0) got ≡ getD seen y 0 → Spread (AtSetting y got) i tab seen tab seen

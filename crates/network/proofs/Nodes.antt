@@ -3,20 +3,20 @@
 use mathlib.Core.Path.{_≡_, refl, sym, ap, _∙_, subst}
 use mathlib.Core.Bool.{Bool, true, false, cond, _&&_, _||_}
 use mathlib.Core.List.{List, [], _∷_}
-use Prim.Native.Nat.{ℕ, suc, _+_, _-_, _*_, _/_, _%_, _^_, _≤_, _<_, max}
+use Prim.Native.Nat.{ℕ, _+_, _-_, _*_, _^_, _≤_, _<_}
 use native.Mathlib.Omega.{arith}
 use native.Mathlib.Decide.{decLt}
 use native.Mathlib.Numerals.{add-one}
 use lib.ListN.{length, getD, set, length-set}
 use lib.Seq.{getD-set-same, getD-set-other}
 use lib.Dec.{eqb, leb}
-use lib.Bits.{bitOr, or-shr, or-step, or-lt}
-use lib.Pow.{pow-lt, pow-add, pow-pos}
-use native.Mathlib.Nat.{pow-suc, div-eq-of-lt, div-self, mul-div-cancel}
-use borrow.Author.Tests.{eq-eqb, ne-eqb, eqb-true, eqb-false}
+use lib.Bits.{bitOr, or-lt}
+use lib.Pow.{pow-lt}
+use borrow.Author.Tests.{ne-eqb, eqb-true, eqb-false}
 use Rattle.model.specs.Network.{segment, multiplexer, tabulate}
-use Rattle.model.proofs.Lists.{tabulate-cong}
+use Rattle.model.proofs.Lists.{or-false-right, tabulate-cong}
 use Rattle.path.specs.Layout.{fieldAt, nodeAt, wordWidth, wordBit}
+use Rattle.path.proofs.WordTests.{wordBit-or, wordBit-pow}
 use Rattle.network_text.specs.Line.{inputsOf}
 use Rattle.network_text.proofs.Bounds.{by-count}
 use Rattle.network.specs.Store.{Row, RowStored, Small, BitMarked, Marked}
@@ -79,57 +79,18 @@ storing-all ns k row i ns′ lo hi p = record {
 
 -- ---- the words of steering bits
 
-bit-max : (x y : ℕ) → x < 2 → y < 2 → eqb (max x y) 1 ≡ (eqb x 1 || eqb y 1)
-bit-max x y a b = go (decLt x 1) (decLt y 1)
-  where
-    go : Dec (x < 1) → Dec (y < 1) → eqb (max x y) 1 ≡ (eqb x 1 || eqb y 1)
-    go (yes h) (yes k) = let e : x ≡ 0 = omega arith in let f : y ≡ 0 = omega arith in rw (e, f)
-    go (yes h) (no k) = let e : x ≡ 0 = omega arith in let f : y ≡ 1 = omega arith in rw (e, f)
-    go (no h) (yes k) = let e : x ≡ 1 = omega arith in let f : y ≡ 0 = omega arith in rw (e, f)
-    go (no h) (no k) = let e : x ≡ 1 = omega arith in let f : y ≡ 1 = omega arith in rw (e, f)
-
-pub wordBit-or : (v w c : ℕ) → wordBit (bitOr v w) c ≡ (wordBit v c || wordBit w c)
-wordBit-or v w c =
-    let p = v / 2 ^ c in
-    let q = w / 2 ^ c in
-    let e : bitOr p q % 2 ≡ max (p % 2) (q % 2) = ap (λ (x : ℕ). x % 2) (or-step p q) ∙ omega arith in
-    ap (λ (x : ℕ). eqb (x % 2) 1) (or-shr v w c) ∙ ap (λ (x : ℕ). eqb x 1) e ∙ bit-max (p % 2) (q % 2) (omega arith) (omega arith)
-
--- bit c of the word whose only bit is b
-pub wordBit-pow : (b c : ℕ) → wordBit (2 ^ b) c ≡ eqb b c
-wordBit-pow b c = go (decLt c b) (decLt b c)
-  where
-    go : Dec (c < b) → Dec (b < c) → wordBit (2 ^ b) c ≡ eqb b c
-    go (yes h) k =
-        let m = b - suc c in
-        let e : b ≡ suc m + c = omega arith in
-        let q : 2 ^ b / 2 ^ c ≡ 2 ^ m * 2 = ap (λ (x : ℕ). 2 ^ x / 2 ^ c) e ∙ ap (λ (x : ℕ). x / 2 ^ c) (pow-add 2 (suc m) c) ∙ mul-div-cancel (2 ^ suc m) (pow-pos c) ∙ pow-suc 2 m in
-        let z : 2 ^ b / 2 ^ c % 2 ≡ 0 = ap (λ (x : ℕ). x % 2) q ∙ omega arith in
-        rw (z, ne-eqb b c (λ w. omega arith))
-    go (no h) (yes k) =
-        let z : 2 ^ b / 2 ^ c ≡ 0 = div-eq-of-lt (pow-lt k) in
-        rw (z, ne-eqb b c (λ w. omega arith))
-    go (no h) (no k) =
-        let e : b ≡ c = omega arith in
-        let z : 2 ^ c / 2 ^ c ≡ 1 = div-self (pow-pos c) in
-        rw (e, z, eq-eqb c c refl)
-
-pub or-false : (t : Bool) → t ≡ (t || false)
-or-false true = refl
-or-false false = refl
-
 and-no : (a b : Bool) → b ≡ false → (a && b) ≡ false
 and-no true b e = e
 and-no false b e = refl
 
 -- no such segment, or no such bit
 pub no-segment : (old : List ℕ) (s b : ℕ) → 128 < s → BitMarked old s b old
-no-segment old s b h = record { size = refl; marks = λ r c l m. rw (ne-eqb s r (λ z. omega arith)) (or-false (wordBit (getD old r 0) c)); small = λ f. f }
+no-segment old s b h = record { size = refl; marks = λ r c l m. rw (ne-eqb s r (λ z. omega arith)) (sym (or-false-right (wordBit (getD old r 0) c))); small = λ f. f }
 
 pub no-bit : (old : List ℕ) (s b : ℕ) → wordWidth ≤ b → BitMarked old s b old
 no-bit old s b h = record {
   size = refl;
-  marks = λ r c l m. rw (and-no (eqb s r) (eqb b c) (ne-eqb b c (λ z. omega arith))) (or-false (wordBit (getD old r 0) c));
+  marks = λ r c l m. rw (and-no (eqb s r) (eqb b c) (ne-eqb b c (λ z. omega arith))) (sym (or-false-right (wordBit (getD old r 0) c)));
   small = λ f. f;
 }
 
@@ -143,7 +104,7 @@ bit-marked old s b o size hs hb e = record { size = length-set old s v; marks = 
     marks r c true f =
         rw (← (eqb-true s r f), getD-set-same old s v 0 (omega arith), e)
         (wordBit-or (getD old s 0) (2 ^ b) c ∙ ap (λ (t : Bool). wordBit (getD old s 0) c || t) (wordBit-pow b c))
-    marks r c false f = rw (getD-set-other old s r v 0 (λ z. eqb-false s r f (sym z))) (or-false (wordBit (getD old r 0) c))
+    marks r c false f = rw (getD-set-other old s r v 0 (λ z. eqb-false s r f (sym z))) (sym (or-false-right (wordBit (getD old r 0) c)))
 
     small : Small old → Small (set old s v)
     small f r = go (eqb s r) refl
@@ -154,13 +115,13 @@ bit-marked old s b o size hs hb e = record { size = length-set old s v; marks = 
 
 -- the address bits of a node
 pub marked-none : (old : List ℕ) (from len : ℕ) (s : Bool) → Marked old (segment from len s) old
-marked-none old from len s = record { size = refl; marks = λ r c l m. or-false (wordBit (getD old r 0) c); small = λ f. f }
+marked-none old from len s = record { size = refl; marks = λ r c l m. sym (or-false-right (wordBit (getD old r 0) c)); small = λ f. f }
 
 pub marked-one : (old new : List ℕ) (s b n i0 i1 i2 i3 : ℕ) → 2 ≤ n → n ≤ 4 → n ≤ 2 → BitMarked old s b new → Marked old (multiplexer s b (inputsOf n i0 i1 i2 i3)) new
 marked-one old new s b n i0 i1 i2 i3 lo hi two m =
     let e : 2 ≡ n = omega arith in
     subst (λ (k : ℕ). Marked old (multiplexer s b (inputsOf k i0 i1 i2 i3)) new) e
-    record { size = m .size; marks = λ r c l k. m .marks r c l k ∙ ap (λ (t : Bool). wordBit (getD old r 0) c || (eqb s r && t)) (or-false (eqb b c)); small = m .small }
+    record { size = m .size; marks = λ r c l k. m .marks r c l k ∙ ap (λ (t : Bool). wordBit (getD old r 0) c || (eqb s r && t)) (sym (or-false-right (eqb b c))); small = m .small }
 
 pub marked-two : (old mid new : List ℕ) (s b n i0 i1 i2 i3 : ℕ) → 2 < n → n ≤ 4 → BitMarked old s b mid → BitMarked mid s (b + 1) new
     → Marked old (multiplexer s b (inputsOf n i0 i1 i2 i3)) new

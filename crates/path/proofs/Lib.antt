@@ -1,5 +1,6 @@
 -- Laws of this crate's definitions.
 pub mod WordLaws
+pub mod WordTests
 pub mod FieldLaws
 pub mod NodeLaws
 pub mod StepLaws

@@ -15,7 +15,7 @@ use Rattle.model.specs.Network.{Network}
 use Rattle.model.proofs.Lists.{and-false-right}
 use Rattle.path.specs.Layout.{wordBit}
 use Rattle.path.proofs.WordLaws.{zero-bit}
-use Rattle.network.proofs.Nodes.{wordBit-or, wordBit-pow}
+use Rattle.path.proofs.WordTests.{wordBit-or, wordBit-pow}
 use Rattle.search.specs.Moves.{allOf, count, gain, land, reached, goes, sysOf}
 use Rattle.search.specs.Layers.{someOf}
 use Rattle.search.proofs.Forward.{someOf-same, someOf-snoc}

@@ -7,12 +7,12 @@ use Prim.Native.Nat.{ℕ, _+_, _/_, _^_, _≤_, _<_}
 use native.Mathlib.Omega.{arith}
 use native.Mathlib.Decide.{decLt}
 use borrow.Author.Tests.{ne-eqb, eqb-true}
-use lib.Bits.{bitAnd, bitOr, and-mask, or-lt}
+use lib.Bits.{bitAnd, bitOr, and-mask, or-lt, or-zero-r}
 use lib.Dec.{eqb}
-use Rattle.model.proofs.Lists.{true-false, eqb-same, or-left, or-right, and-parts, and-false-right, and-true-right}
+use Rattle.model.proofs.Lists.{true-false, eqb-same, or-left, or-right, and-parts, and-false-right, and-true-right, or-false-right}
 use Rattle.path.specs.Layout.{wordBit}
 use Rattle.path.proofs.WordLaws.{zero-bit}
-use Rattle.network.proofs.Nodes.{wordBit-or, wordBit-pow, or-false}
+use Rattle.path.proofs.WordTests.{wordBit-or, wordBit-and, wordBit-pow}
 use Rattle.sets.specs.Sets.{JoinedAt, KeptAt, Before, Joined}
 
 -- ---- one bit
@@ -39,7 +39,14 @@ pub joined-there : (r sets g m o : ℕ) → wordBit sets m ≡ true → o ≡ 2 
 joined-there r sets g m o e is y small = rw (e, is) (with-one r (bitOr m g) y)
 
 pub joined-not : (r sets g m : ℕ) → wordBit sets m ≡ false → JoinedAt r sets g m r
-joined-not r sets g m e y small = rw e (or-false (wordBit r y))
+joined-not r sets g m e y small = rw e (sym (or-false-right (wordBit r y)))
+
+-- with no target
+pub joined-alone : (sets g : ℕ) → g ≡ 0 → Joined sets g sets
+joined-alone sets g z = record {
+  has = λ m lt e. rw (z, or-zero-r m) e;
+  from = λ y lt e. record { from = y; small = lt; is = e; makes = rw z (or-zero-r y) };
+}
 
 -- of the first n sets of targets
 pub record JoinedBelow (sets g n r : ℕ) : Type 0 where
@@ -77,10 +84,14 @@ pub kept-there : (r sets g all m o : ℕ) → wordBit sets m ≡ true → wordBi
 kept-there r sets g all m o e f is y small = rw (e, f, is) (with-one r m y)
 
 pub kept-not : (r sets g all m : ℕ) → wordBit sets m ≡ false → KeptAt r sets g all m r
-kept-not r sets g all m e y small = rw e (or-false (wordBit r y))
+kept-not r sets g all m e y small = rw e (sym (or-false-right (wordBit r y)))
 
 pub kept-off : (r sets g all m : ℕ) → wordBit sets m ≡ true → wordBit all (bitOr m g) ≡ false → KeptAt r sets g all m r
-kept-off r sets g all m e f y small = rw (e, f) (or-false (wordBit r y))
+kept-off r sets g all m e f y small = rw (e, f) (sym (or-false-right (wordBit r y)))
+
+-- with no target
+pub kept-alone : (sets g all : ℕ) → g ≡ 0 → (m : ℕ) → m < 16 → wordBit (bitAnd sets all) m ≡ (wordBit sets m && wordBit all (bitOr m g))
+kept-alone sets g all z m lt = rw (z, or-zero-r m) (wordBit-and sets all m)
 
 -- of the first n sets of targets
 pub record KeptBelow (sets g all n r : ℕ) : Type 0 where
@@ -97,7 +108,7 @@ kept-more sets g all n r q lt at p = record { below = below; beyond = λ m a b. 
     t = wordBit sets n && wordBit all (bitOr n g)
 
     other : (m : ℕ) → m < 16 → (n ≡ m → ⊥) → wordBit q m ≡ wordBit r m
-    other m b ne = at m b ∙ ap (λ (v : Bool). wordBit r m || (t && v)) (ne-eqb n m ne) ∙ ap (λ (v : Bool). wordBit r m || v) (and-false-right t) ∙ sym (or-false (wordBit r m))
+    other m b ne = at m b ∙ ap (λ (v : Bool). wordBit r m || (t && v)) (ne-eqb n m ne) ∙ ap (λ (v : Bool). wordBit r m || v) (and-false-right t) ∙ or-false-right (wordBit r m)
 
     below : (m : ℕ) → m < n + 1 → wordBit q m ≡ (wordBit sets m && wordBit all (bitOr m g))
     below m less = elim (decLt m n) [

@@ -42,11 +42,14 @@ fn joined_at(r: u16, sets: u16, g: usize, m: usize) -> u16
     r
 }
 
-// Each of sets together with g.
+// Each of sets together with g, which mostly has no target.
 pub fn joined(sets: u16, g: usize) -> u16
     requires { ⌜ g < 16 ⌝ }
     ensures { λ r. ⌜ Joined sets g r ⌝ }
 {
+    if g == 0 {
+        return sets;
+    }
     let mut r: u16 = 0;
     let mut m: usize = 0;
     while m < 16 {
@@ -75,6 +78,9 @@ pub fn kept(sets: u16, g: usize, all: u16) -> u16
     requires { ⌜ g < 16 ⌝ }
     ensures { λ r. ⌜ ((m : ℕ) → m < 16 → wordBit r m ≡ (wordBit sets m && wordBit all (bitOr m g))) ⌝ }
 {
+    if g == 0 {
+        return sets & all;
+    }
     let mut r: u16 = 0;
     let mut m: usize = 0;
     while m < 16 {

@@ -3,7 +3,7 @@
 -- Assumes nothing.
 use Prim.Native.Nat.{_-_, _≤_}
 use native.Mathlib.Omega.{arith}
-use Rattle.sets.proofs.SetLaws.{JoinedBelow, joined-none, joined-more, joined-all}
+use Rattle.sets.proofs.SetLaws.{joined-alone, JoinedBelow, joined-none, joined-more, joined-all}
 use Rattle.sets.proofs.joined.Statement.{statement}
 use Rattle.sets.proofs.joined.Tie as tie
 
@@ -13,11 +13,14 @@ Inv-loop sets g r₀ m₀ r m = (m ≤ 16) × JoinedBelow sets g m r
 abbrev μ-loop : tie.MeasureT-loop
 μ-loop sets g r₀ m₀ r m = 16 - m
 
+returns : tie.Need-returns Inv-loop μ-loop
+returns c = joined-alone (c .before .args .sets) (c .before .args .g) (c .if1 .taken)
+
 loop-holds : tie.Need-loop-holds Inv-loop μ-loop
-loop-holds c = (omega arith, joined-none (c .args .sets) (c .args .g))
+loop-holds c = (omega arith, joined-none (c .before .args .sets) (c .before .args .g))
 
 joined-at-requires : tie.Need-joined-at-requires Inv-loop μ-loop
-joined-at-requires c κs = (c .before .before .pre, omega arith)
+joined-at-requires c κs = (c .before .before .before .pre, omega arith)
 
 add-m : tie.Need-add-m Inv-loop μ-loop
 add-m c = omega arith
@@ -28,13 +31,13 @@ loop-less c = omega arith
 loop-again : tie.Need-loop-again Inv-loop μ-loop
 loop-again c =
     let l = c .before .before .loop in
-    let s = c .before .before .before in
+    let s = c .before .before .before .before in
     (omega arith, joined-more (s .args .sets) (s .args .g) (l .m) (l .r) (c .joined-at .result) (s .pre) (omega arith) (c .joined-at .ensures) (l .inv .1))
 
-returns : tie.Need-returns Inv-loop μ-loop
-returns c = joined-all (c .before .before .args .sets) (c .before .before .args .g) (c .before .loop .m) (c .before .loop .r) (omega arith) (c .before .loop .inv .1)
+returns-2 : tie.Need-returns-2 Inv-loop μ-loop
+returns-2 c = joined-all (c .before .before .before .args .sets) (c .before .before .before .args .g) (c .before .loop .m) (c .before .loop .r) (omega arith) (c .before .loop .inv .1)
 
 pub joined-spec : {M : Type 1} → statement M
 joined-spec =
     tie.close
-    (tie.spec Inv-loop μ-loop loop-holds joined-at-requires add-m loop-less loop-again returns)
+    (tie.spec Inv-loop μ-loop returns loop-holds joined-at-requires add-m loop-less loop-again returns-2)
