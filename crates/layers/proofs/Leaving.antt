@@ -13,15 +13,16 @@ use lib.Bits.{bitOr}
 use lib.ListN.{length, getD}
 use Rattle.model.specs.Network.{Network, steeringBits}
 use Rattle.model.proofs.Lists.{true-false, or-left, or-right}
-use Rattle.path.specs.Layout.{wordBit}
-use Rattle.path.proofs.WordLaws.{zero-bit}
-use Rattle.path.proofs.WordTests.{wordBit-or, wordBit-pow}
+use Rattle.words.specs.Words.{wordBit}
+use Rattle.words.proofs.WordLaws.{zero-bit}
+use Rattle.words.proofs.WordTests.{wordBit-or, wordBit-pow}
 use Rattle.search.specs.Moves.{count, reached, goes}
-use Rattle.layers.specs.Table.{layersOf, Known}
-use Rattle.layers.specs.Spreading.{Spread, Leaves, Next, SetsIn}
+use Rattle.goals.specs.Table.{layersOf, Known}
+use Rattle.goals.specs.Goals.{SetsIn}
+use Rattle.layers.specs.Spreading.{Spread, Leaves, Next}
 use Rattle.layers.proofs.SpreadLaws.{spread-none, spread-more, spread-as}
-use Rattle.layers.proofs.SlotLaws.{layer-slot, slot-at}
-use Rattle.layers.proofs.GoalLaws.{slot-word}
+use Rattle.goals.proofs.SlotLaws.{layer-slot, slot-at}
+use Rattle.goals.proofs.GoalLaws.{slot-word}
 
 -- what leaves slot j from a setting below x
 pub record LeftBelow (net : Network) (tab : List ℕ) (j x s : ℕ) : Type 0 where

@@ -1,6 +1,4 @@
--- Laws of the layers forward: slots of the table, what an operation adds to a slot, goals, and layer after layer.
-pub mod SlotLaws
+-- Laws of the layers forward: what an operation adds to a slot, and layer after layer.
 pub mod SpreadLaws
-pub mod GoalLaws
 pub mod Leaving
 pub mod Layering

@@ -14,12 +14,13 @@ use lib.ListN.{length, getD, set, length-set}
 use lib.Seq.{getD-set-same, getD-set-other}
 use Rattle.model.specs.Network.{Network}
 use Rattle.model.proofs.Lists.{or-left, or-right, and-both, and-parts, or-false-right}
-use Rattle.path.specs.Layout.{wordBit}
-use Rattle.path.proofs.WordTests.{wordBit-or}
+use Rattle.words.specs.Words.{wordBit}
+use Rattle.words.proofs.WordTests.{wordBit-or}
 use Rattle.search.specs.Moves.{count, gain, land}
 use Rattle.sets.specs.Sets.{Joined}
-use Rattle.layers.specs.Table.{inSlot, inSeen, OutOfSlot}
-use Rattle.layers.specs.Spreading.{Spread, AtSetting, Arrives, Leaves, SetsIn}
+use Rattle.goals.specs.Table.{inSlot, inSeen, OutOfSlot}
+use Rattle.goals.specs.Goals.{SetsIn}
+use Rattle.layers.specs.Spreading.{Spread, AtSetting, Arrives, Leaves}
 use Rattle.sets.proofs.SetLaws.{or-cases, together-small}
 
 -- ---- nothing, and one after the other

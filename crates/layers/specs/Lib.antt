@@ -1,3 +1,2 @@
--- What the contracts of the layers cite: the table of layers, and its spreading.
-pub mod Table
+-- What the contracts of the layers cite.
 pub mod Spreading

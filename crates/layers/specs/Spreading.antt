@@ -1,19 +1,18 @@
 -- What the functions that fill a slot from the layer before it ask and leave.
 -- Assumes nothing.
 use mathlib.Core.Path.{_≡_}
-use mathlib.Core.Bool.{Bool, true, false, _&&_}
+use mathlib.Core.Bool.{true}
 use mathlib.Core.Logic.{_⊎_}
 use mathlib.Core.List.{List}
 use mathlib.Core.Option.{none}
 use Prim.Native.Nat.{ℕ, _/_, _%_, _^_, _≤_, _<_}
-use lib.Dec.{ltb}
 use lib.ListN.{length, getD}
 use Rattle.model.specs.Network.{Network, steeringBits}
-use Rattle.path.specs.Layout.{wordBit}
+use Rattle.words.specs.Words.{wordBit}
 use Rattle.search.specs.Search.{planUpTo}
 use Rattle.search.specs.Moves.{allOf, count, reached, goes, sysOf}
 use Rattle.search.specs.Layers.{Layers, Stepped}
-use Rattle.layers.specs.Table.{inSlot, inSeen, layersOf, OnlySlot, Known}
+use Rattle.goals.specs.Table.{inSlot, inSeen, layersOf, OnlySlot, Known}
 
 -- slot i and the states met, with each state of P besides that had not been met
 pub record Spread (P : ℕ → Type 0) (i : ℕ) (tab seen tab′ seen′ : List ℕ) : Type 0 where
@@ -48,19 +47,6 @@ pub record Leaves (net : Network) (x sets s : ℕ) : Type 0 where
 -- that an operation leads to from a state of layer i
 abbrev pub Next : Network → ℕ → List ℕ → ℕ → ℕ → Type 0
 Next net start tab i s = Stepped (sysOf net) (layersOf start tab) i s
-
--- with each state of P its set of targets is in r
-abbrev pub SetsIn : (ℕ → Type 0) → ℕ → Type 0
-SetsIn P r = (s : ℕ) → P s → wordBit r (s % 16) ≡ true
-
--- setting x with one of sets is a goal: it is valid, and all targets are reached
-abbrev pub goalWith : Network → ℕ → ℕ → ℕ → Bool
-goalWith net full x sets = wordBit sets full && ltb 0 (count net x)
-
--- whether slot i has a goal
-pub record GoalIn (net : Network) (tab : List ℕ) (i : ℕ) (r : Bool) : Type 0 where
-  pub some-goal : r ≡ true → (s : ℕ) × (inSlot tab i s ≡ true) × (sysOf net .goal s ≡ true)
-  pub no-goal : r ≡ false → (s : ℕ) → inSlot tab i s ≡ true → sysOf net .goal s ≡ false
 
 -- a start in a setting of the network, and the number of all targets, of which there is one at least
 pub record Starts (net : Network) (start full : ℕ) : Type 0 where

@@ -16,10 +16,11 @@ use Rattle.model.specs.Network.{Config, Target, read, write, tabulate}
 use Rattle.model.specs.Path.{ScanPath, bitValue}
 use Rattle.model.specs.Mark.{Got, Pass, sameTrit, holdsBits, withGot, readAt, writtenAt, targetsFrom}
 use Rattle.model.proofs.Lists.{tabulate-whole, tabulate-step, tabulate-none}
-use Rattle.path.specs.Layout.{wordBit, tritAt, tritsOf, configOf}
+use Rattle.words.specs.Words.{wordBit, tritAt, tritsOf}
+use Rattle.path.specs.Layout.{configOf}
 use Rattle.path.proofs.ConfigLaws.{config-row}
-use Rattle.network.specs.declared.draft.Tally.{Tally}
-use Rattle.network.specs.Draws.{targetAt, targetsOf}
+use Rattle.draft.specs.declared.store.Tally.{Tally}
+use Rattle.draft.specs.Draws.{targetAt, targetsOf}
 use Rattle.marker.specs.declared.targets.Gots.{Gots}
 use Rattle.marker.specs.declared.targets.Verdict.the-variants.{Pass as Passed}
 use Rattle.marker.specs.Marks.{gotsOf, Blank, noGots, refusedMark}

@@ -9,10 +9,11 @@ use Rattle.model.specs.Result.{ok, andThen}
 use Rattle.model.specs.Network.{lenOf, tabulate}
 use Rattle.model.specs.Path.{ScanPath}
 use Rattle.model.specs.Mark.{holdsBits, targetsFrom}
-use Rattle.path.specs.Layout.{nodeAt, wordWidth, wordBit, tritsOf, configOf}
+use Rattle.words.specs.Words.{wordWidth, wordBit, tritsOf}
+use Rattle.path.specs.Layout.{nodeAt, configOf}
 use Rattle.path.specs.Answers.{ConfigSized}
-use Rattle.network.specs.declared.draft.Tally.{Tally}
-use Rattle.network.specs.Draws.{Tame, targetsOf}
+use Rattle.draft.specs.declared.store.Tally.{Tally}
+use Rattle.draft.specs.Draws.{Tame, targetsOf}
 use Rattle.marker.specs.declared.targets.Gots.{Gots}
 use Rattle.marker.specs.declared.targets.Mark.{Mark}
 use Rattle.operations.specs.Operations.{Reached}

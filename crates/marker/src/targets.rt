@@ -1,16 +1,16 @@
 // The targets after the operations: 17 for the lowest that was on no path or does not hold its bits, or the pass with its `got` rows.
-use network::draft::Tally;
+use draft::store::Tally;
 use path::layout::Nodes;
-use path::layout::Word;
 use path::layout::Words;
 use path::layout::segment_len;
 use path::layout::wide;
-use path::words::bit_at;
+use words::Word;
+use words::bit_at;
 ghost use mathlib.Core.Path.{_≡_};
 ghost use Prim.Native.Nat.{_≤_, _<_};
 ghost use Rattle.model.specs.Mark.{holdsBits};
 ghost use Rattle.model.specs.Network.{tabulate};
-ghost use Rattle.path.specs.Layout.{wordWidth, wordBit, tritsOf};
+ghost use Rattle.words.specs.Words.{wordWidth, wordBit, tritsOf};
 ghost use Rattle.marker.specs.Marks.{noGots, Blank, refusedMark, RowsFor};
 ghost use Rattle.marker.specs.Targets.{Pushed, Judgeable, isHeld, Judges};
 

@@ -8,13 +8,10 @@ use native.Mathlib.Omega.{arith}
 use lib.ListN.{length, getD, length-append}
 use Rattle.model.specs.Network.{Node, lenOf, tabulate, steers, steeringIn, steeringFrom, steeringBits}
 use Rattle.model.specs.Path.{bitValue}
-use Rattle.path.specs.Layout.{nodeAt, nodesOf, wordWidth, wordBit}
-use Rattle.network.specs.Draws.{Short}
+use Rattle.words.specs.Words.{wordWidth, wordBit}
+use Rattle.path.specs.Layout.{nodeAt, nodesOf}
+use Rattle.draft.specs.Draws.{Short}
 use Rattle.network.specs.Counts.{countIn, countFrom}
-
-pub value-most : (t : Bool) → bitValue t ≤ 1
-value-most true = omega arith
-value-most false = omega arith
 
 pub count-step : (w b len : ℕ) → b < len → countIn w b (len - b) ≡ bitValue (wordBit w b) + countIn w (b + 1) (len - (b + 1))
 unfolding countIn

@@ -1,11 +1,4 @@
--- Laws of the record and of the lines that are added to it.
-pub mod Nodes
-pub mod Drawing
-pub mod AddingNodes
-pub mod BadAddresses
-pub mod AddingOut
-pub mod AddingHolds
-pub mod AddingTargets
+-- Laws of the start, of the lines in turn, and of the record.
 pub mod Starting
 pub mod Counting
 pub mod ReadingLines

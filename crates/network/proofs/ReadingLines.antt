@@ -14,13 +14,13 @@ use Rattle.text.specs.Places.{IsEnd}
 use Rattle.text.proofs.Parts.{rest-alone, rest-ended}
 use Rattle.network_text.specs.declared.Entry.{Entry}
 use Rattle.network_text.specs.declared.ParsedLine.{ParsedLine}
-use Rattle.network.specs.declared.add.Refusal.{Refusal}
-use Rattle.network.specs.declared.add.Refusal.the-variants.{Nothing, Refused}
+use Rattle.draft.specs.declared.add.Refusal.{Refusal}
+use Rattle.draft.specs.declared.add.Refusal.the-variants.{Nothing, Refused}
 use Rattle.network_text.specs.Line.{bytesAt, entryMeans, GoodEntry, IsLine}
-use Rattle.network.specs.declared.draft.Tally.{Tally}
-use Rattle.network.specs.declared.add.Added.{Added}
+use Rattle.draft.specs.declared.store.Tally.{Tally}
+use Rattle.draft.specs.declared.add.Added.{Added}
 use Rattle.network.specs.declared.reader.Lines.{Lines}
-use Rattle.network.specs.Draws.{Draws, Agrees}
+use Rattle.draft.specs.Draws.{Draws, Agrees}
 use Rattle.network.specs.Reads.{LineAdded, LinesAre, LinesRead}
 
 -- ---- a parsed line

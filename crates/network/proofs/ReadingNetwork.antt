@@ -16,27 +16,28 @@ use Rattle.model.specs.Path.{Walk, walk, pathOf, pathIn, pathLength}
 use Rattle.model.specs.NetworkText.{Draft, noLines, isHeld, networkOf, ifStarts, finish, readLines, readNetwork}
 use Rattle.model.proofs.Accepted.{draft-formed}
 use Rattle.model.proofs.Reading.{sound-start}
-use Rattle.path.specs.Layout.{nodesOf, wordWidth, wordBit, configOf, scanPath}
+use Rattle.words.specs.Words.{wordWidth, wordBit}
+use Rattle.path.specs.Layout.{nodesOf, configOf, scanPath}
 use Rattle.path.specs.Answers.{Found, Walkable, told}
 use Rattle.path.specs.declared.walk.Walked.{Walked}
 use Rattle.path.specs.declared.walk.Walked.the-variants.{Path, Stop as Stopped}
-use Rattle.path.proofs.WordLaws.{zero-bit}
+use Rattle.words.proofs.WordLaws.{zero-bit}
 use Rattle.path.specs.Stored.{Stored}
 use Rattle.path.proofs.StoredLaws.{stored-walkable, found-walk}
-use Rattle.network.specs.declared.draft.Tally.{Tally}
-use Rattle.network.specs.declared.add.Refusal.the-variants.{Nothing, Refused}
+use Rattle.draft.specs.declared.store.Tally.{Tally}
+use Rattle.draft.specs.declared.add.Refusal.the-variants.{Nothing, Refused}
 use Rattle.network.specs.declared.reader.Lines.{Lines}
 use Rattle.network.specs.declared.reader.Ending.{Ending}
 use Rattle.network.specs.declared.reader.Ending.the-variants.{Refused as EndRefused, Recorded}
 use Rattle.network.specs.declared.reader.Network.{Network}
 use Rattle.network.specs.declared.reader.Verdict.the-variants.{Accepted, Refused as Rejected}
 use Rattle.network.specs.declared.reader.Reading.{Reading}
-use Rattle.network.specs.Draws.{feedsOf, Short, Draws, emptyTally}
+use Rattle.draft.specs.Draws.{feedsOf, Short, Draws, emptyTally}
 use Rattle.network.specs.Start.{StartFilled}
 use Rattle.network.specs.Counts.{countFrom}
 use Rattle.network.specs.Reads.{LinesAre, networkOf as recorded, recordOf, EndsAs, Begun, StartWalked, finishOf, readingBy, noNetwork, FilledIf, IsReading}
 use Rattle.model.proofs.Lists.{zero-at}
-use Rattle.network.proofs.Drawing.{drawn-out, drawn-words}
+use Rattle.draft.proofs.Drawing.{drawn-out, drawn-words}
 use Rattle.network.proofs.Counting.{counts-steering}
 use Rattle.network.proofs.Starting.{start-config}
 

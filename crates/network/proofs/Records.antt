@@ -1,31 +1,31 @@
 -- What a reading says for its callers: the record of an accepted text holds the network, and its targets are segments of it.
 -- Assumes nothing.
 use mathlib.Core.Path.{_≡_, refl, sym, ap, _∙_, subst}
-use mathlib.Core.Bool.{Bool, true, false, cond}
+use mathlib.Core.Bool.{true}
 use mathlib.Core.List.{List, List·Memᴰ, List·Memᴰ·head, List·Memᴰ·tail}
 use Prim.Native.Nat.{ℕ, zero, suc, _+_, _≤_, _<_}
 use native.Mathlib.Omega.{arith}
 use native.Mathlib.Decide.{decLt}
 use native.Mathlib.Nat.{not-suc-le-zero}
 use lib.ListN.{getD}
-use lib.Dec.{eqb}
 use Rattle.model.specs.Result.{ok, refused}
 use Rattle.model.specs.Text.{Bytes}
-use Rattle.model.specs.Network.{Node, Target, read, write, at, noNode, isSegment, lenOf, tabulate}
-use Rattle.model.specs.NetworkText.{targetSegment, fitsTarget, readNetwork}
-use Rattle.model.proofs.Lists.{true-false, and-parts, length-tabulate}
+use Rattle.model.specs.Network.{Node, at, noNode, isSegment, lenOf, tabulate}
+use Rattle.model.specs.NetworkText.{readNetwork}
+use Rattle.model.proofs.Lists.{true-false, length-tabulate}
 use Rattle.model.proofs.Accepted.{Accepted, accepted}
-use Rattle.path.specs.Layout.{nodeAt, nodesOf, wordWidth, wordBit}
+use Rattle.words.specs.Words.{wordWidth}
+use Rattle.path.specs.Layout.{nodeAt, nodesOf}
 use Rattle.path.proofs.ConfigLaws.{good-most}
 use Rattle.path.specs.Stored.{Stored}
-use Rattle.network.specs.declared.draft.Tally.{Tally}
 use Rattle.network.specs.declared.reader.Network.{Network}
 use Rattle.network.specs.declared.reader.Reading.{Reading}
 use Rattle.network.specs.declared.reader.Verdict.{Verdict}
 use Rattle.network.specs.declared.reader.Verdict.the-variants.{Accepted as Passed, Refused as Rejected}
-use Rattle.network.specs.Draws.{targetAt}
+use Rattle.draft.specs.Draws.{targetAt}
 use Rattle.network.specs.Reads.{networkOf, readingBy, Filled, FilledIf, IsReading}
-use Rattle.network.proofs.BadAddresses.{node-in, node-zero, node-beyond}
+use Rattle.draft.proofs.BadAddresses.{node-in, node-zero, node-beyond}
+use Rattle.draft.proofs.TargetLaws.{fits-segment, target-names}
 
 pub record Recorded (t : Bytes) (r : Network) : Type 0 where
   pub reads : readNetwork t ≡ ok (networkOf r)
@@ -53,24 +53,10 @@ tabulate-in f i (suc n) (suc j) l =
     let z : suc i + j ≡ i + suc j = omega arith in
     List·Memᴰ·tail (subst (λ (k : ℕ). List·Memᴰ (f k) (tabulate f (suc i) n)) z (tabulate-in f (suc i) n j (omega arith)))
 
-pub fits-segment : (ns : List Node) (t : Target) → fitsTarget ns t ≡ true → isSegment (at ns (targetSegment t) noNode) ≡ true
-fits-segment ns (read s) e = e
-fits-segment ns (write s bs) e = and-parts (isSegment (at ns s noNode)) _ e .0
-
 pub record TargetSegment (ns : List ℕ) (count s : ℕ) : Type 0 where
   pub least : 1 ≤ s
   pub most : s ≤ count
   pub short : lenOf (nodeAt ns s) ≤ wordWidth
-
-pub segment-at : (ns : List ℕ) (t : Tally) (i : ℕ) → targetSegment (targetAt ns t i) ≡ getD (t .«target_segment») i 0
-segment-at ns t i = go (eqb (getD (t .«target_write») i 0) 1)
-  where
-    s : ℕ
-    s = getD (t .«target_segment») i 0
-
-    go : (b : Bool) → targetSegment (cond b (write s (tabulate (wordBit (getD (t .«target_bits») i 0)) 0 (lenOf (nodeAt ns s)))) (read s)) ≡ s
-    go true = refl
-    go false = refl
 
 module _ (t : Bytes) (r : Network) (c : Recorded t r) where
   abbrev ns : List Node
@@ -87,7 +73,7 @@ module _ (t : Bytes) (r : Network) (c : Recorded t r) where
       let m = tabulate-in (targetAt (r .nodes) (r .tally)) 0 (r .tally .«target_count») i lt in
       let z : 0 + i ≡ i = omega arith in
       let f = fits-segment ns (targetAt (r .nodes) (r .tally) (0 + i)) (c .net .targets-fit .fits _ m) in
-      ap (λ (k : ℕ). isSegment (at ns k noNode)) (ap (λ (k : ℕ). getD (r .tally .«target_segment») k 0) (sym z) ∙ sym (segment-at (r .nodes) (r .tally) (0 + i))) ∙ f
+      ap (λ (k : ℕ). isSegment (at ns k noNode)) (ap (λ (k : ℕ). getD (r .tally .«target_segment») k 0) (sym z) ∙ sym (target-names (r .nodes) (r .tally) (0 + i))) ∙ f
 
   pub target-segment : (i : ℕ) → i < r .tally .«target_count» → TargetSegment (r .nodes) (r .tally .count) (getD (r .tally .«target_segment») i 0)
   target-segment i lt = by (getD (r .tally .«target_segment») i 0) (target-is i lt)

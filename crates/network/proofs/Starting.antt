@@ -13,12 +13,13 @@ use borrow.Author.Tests.{eq-eqb, ne-eqb, eqb-true, eqb-false}
 use Rattle.model.specs.Network.{lenOf, mapFrom, isSteering, heldOr, startBit, startOf}
 use Rattle.model.specs.NetworkText.{Draft, hasOut}
 use Rattle.model.proofs.Lists.{tabulate-cong, mapFrom-tabulate}
-use Rattle.path.specs.Layout.{nodeAt, wordWidth, allKnown, tritsOf, configOf}
-use Rattle.path.proofs.WordLaws.{trits-zero, trits-unknown}
-use Rattle.network.specs.declared.draft.Tally.{Tally}
-use Rattle.network.specs.Draws.{Draws}
-use Rattle.network.proofs.Drawing.{drawn-node, drawn-short}
-use Rattle.network.proofs.AddingTargets.{not-steering, is-steering}
+use Rattle.words.specs.Words.{wordWidth, allKnown, tritsOf}
+use Rattle.path.specs.Layout.{nodeAt, configOf}
+use Rattle.words.proofs.WordLaws.{trits-zero, trits-unknown}
+use Rattle.draft.specs.declared.store.Tally.{Tally}
+use Rattle.draft.specs.Draws.{Draws}
+use Rattle.draft.proofs.Drawing.{drawn-node, drawn-short}
+use Rattle.draft.proofs.AddingTargets.{not-steering, is-steering}
 use Rattle.network.specs.Start.{freeMarks, startBits, startMarks, OneFilled, StartFilled}
 
 pub one-held : (bits known steering held : List ℕ) (s : ℕ) → getD held s 0 ≡ 1 → OneFilled bits known steering held s bits known

@@ -5,7 +5,8 @@ use Prim.Native.Nat.{ℕ, zero, suc, _+_}
 use lib.ListN.{getD}
 use Rattle.model.specs.Network.{lenOf}
 use Rattle.model.specs.Path.{bitValue}
-use Rattle.path.specs.Layout.{nodeAt, wordBit}
+use Rattle.words.specs.Words.{wordBit}
+use Rattle.path.specs.Layout.{nodeAt}
 
 -- the bits that are set in a word from bit b on, among n bits
 unfoldable pub countIn : ℕ → ℕ → ℕ → ℕ

@@ -10,10 +10,11 @@ use Rattle.model.specs.Text.{Bytes, parts, lineEnd}
 use Rattle.model.specs.Network.{Network as ModelNetwork, totalBits, steers, steeringBits}
 use Rattle.model.specs.Path.{pathIn, pathLength}
 use Rattle.model.specs.NetworkText.{Draft, noLines, lineOf, addLine, readLines, finish, readNetwork}
-use Rattle.path.specs.Layout.{nodesOf, wordWidth, wordBit, configOf}
-use Rattle.network.specs.declared.draft.Tally.{Tally}
-use Rattle.network.specs.declared.add.Added.{Added}
-use Rattle.network.specs.declared.add.Refusal.the-variants.{Nothing, Refused}
+use Rattle.words.specs.Words.{wordWidth, wordBit}
+use Rattle.path.specs.Layout.{nodesOf, configOf}
+use Rattle.draft.specs.declared.store.Tally.{Tally}
+use Rattle.draft.specs.declared.add.Added.{Added}
+use Rattle.draft.specs.declared.add.Refusal.the-variants.{Nothing, Refused}
 use Rattle.network.specs.declared.reader.Lines.{Lines}
 use Rattle.network.specs.declared.reader.Ending.{Ending}
 use Rattle.network.specs.declared.reader.Ending.the-variants.{Refused as EndRefused, Recorded}
@@ -21,8 +22,8 @@ use Rattle.network.specs.declared.reader.Network.{Network}
 use Rattle.network.specs.declared.reader.Verdict.{Verdict}
 use Rattle.network.specs.declared.reader.Verdict.the-variants.{Accepted, Refused as Rejected}
 use Rattle.network.specs.declared.reader.Reading.{Reading}
-use Rattle.network.specs.Store.{Small}
-use Rattle.network.specs.Draws.{Draws, Agrees, Tame, targetsOf, emptyTally}
+use Rattle.draft.specs.Store.{Small}
+use Rattle.draft.specs.Draws.{Draws, Agrees, Tame, targetsOf, emptyTally}
 use Rattle.network.specs.Start.{StartFilled}
 
 -- ---- one line, and the lines in turn

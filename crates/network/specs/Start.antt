@@ -6,7 +6,7 @@ use mathlib.Core.List.{List}
 use Prim.Native.Nat.{ℕ, _≤_}
 use lib.ListN.{length, getD}
 use lib.Dec.{eqb}
-use Rattle.path.specs.Layout.{allKnown}
+use Rattle.words.specs.Words.{allKnown}
 
 -- the known marks of a segment without a `hold` line, by its word of steering bits
 abbrev pub freeMarks : ℕ → ℕ

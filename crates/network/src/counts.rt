@@ -1,13 +1,13 @@
 // The count of steering bits.
 use path::layout::Nodes;
-use path::layout::Word;
 use path::layout::Words;
 use path::layout::segment_len;
-use path::words::bit_at;
+use words::Word;
+use words::bit_at;
 ghost use mathlib.Core.Path.{_≡_};
 ghost use Prim.Native.Nat.{_≤_};
-ghost use Rattle.path.specs.Layout.{wordWidth};
-ghost use Rattle.network.specs.Draws.{Short};
+ghost use Rattle.words.specs.Words.{wordWidth};
+ghost use Rattle.draft.specs.Draws.{Short};
 ghost use Rattle.network.specs.Counts.{countIn, countFrom};
 
 // The bits that are set among the first len of a word.

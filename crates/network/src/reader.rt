@@ -1,14 +1,14 @@
 // The reader: a network text to the record, or one refusal.
-use crate::add::Added;
-use crate::add::Refusal;
-use crate::add::add_hold;
-use crate::add::add_node;
-use crate::add::add_out;
-use crate::add::add_read;
-use crate::add::add_write;
 use crate::counts::steering_count;
-use crate::draft::Tally;
 use crate::start::fill_start;
+use draft::add::Added;
+use draft::add::Refusal;
+use draft::add::add_hold;
+use draft::add::add_node;
+use draft::add::add_out;
+use draft::add::add_read;
+use draft::add::add_write;
+use draft::store::Tally;
 use network_text::Entry;
 use network_text::parse;
 use path::layout::Nodes;
@@ -21,7 +21,7 @@ ghost use Prim.Native.Nat.{ℕ, _≤_};
 ghost use lib.ListN.{length};
 ghost use Rattle.model.specs.Result.{Result};
 ghost use Rattle.model.specs.NetworkText.{Draft, noLines};
-ghost use Rattle.network.specs.Draws.{Draws, Drafted, emptyTally};
+ghost use Rattle.draft.specs.Draws.{Draws, Drafted, emptyTally};
 ghost use Rattle.network.specs.Reads.{LineAdded, LinesAre, LinesRead, Begun, StartWalked, LinesFinished, noNetwork, IsReading};
 
 // The record of a network; its last two counts are of the distinct steering bits and of the bits of the start's path.

@@ -1,7 +1,7 @@
 // The start bits of segments without a `hold` line: all 0 in steering segments, all unknown in others.
-use path::layout::ALL_KNOWN;
-use path::layout::Word;
 use path::layout::Words;
+use words::ALL_KNOWN;
+use words::Word;
 ghost use lib.ListN.{length};
 ghost use mathlib.Core.Path.{_≡_};
 ghost use Prim.Native.Nat.{_≤_};

@@ -10,7 +10,7 @@ use lib.ListN.{length, getD, set, length-set}
 use lib.Seq.{getD-set-same, getD-set-other}
 use Rattle.model.specs.Path.{ScanPath, place}
 use Rattle.model.specs.Mark.{orLater, firstOn}
-use Rattle.network.specs.declared.draft.Tally.{Tally}
+use Rattle.draft.specs.declared.store.Tally.{Tally}
 use Rattle.operations.specs.Operations.{Slots, accessAfter, NotedAt, Noted, accessOf, Reached}
 
 -- ---- one target

@@ -16,14 +16,15 @@ use Rattle.model.specs.PlanText.{readPlan, writePlan}
 use Rattle.model.specs.Tap.{bitByte}
 use Rattle.model.specs.Mark.{Run, along, settled, runFrom}
 use Rattle.model.proofs.PlanTexts.{text-of}
-use Rattle.path.specs.Layout.{scanPath, byteBit}
+use Rattle.words.specs.Words.{byteBit}
+use Rattle.path.specs.Layout.{scanPath}
 use Rattle.path.specs.Answers.{Found, Loads}
 use Rattle.path.specs.declared.walk.Walked.{Walked}
 use Rattle.path.specs.declared.walk.Walked.the-variants.{Path, Stop as Stopped}
 use Rattle.path.proofs.StoredLaws.{found-path, found-stop}
 use Rattle.plan_text.specs.Lines.{bitRun}
 use Rattle.plan_text.proofs.Lines.{line-room, line-bits, line-next, line-more, line-none}
-use Rattle.network.specs.declared.draft.Tally.{Tally}
+use Rattle.draft.specs.declared.store.Tally.{Tally}
 use Rattle.operations.specs.declared.Operated.{Operated}
 use Rattle.operations.specs.declared.Operated.the-variants.{Next, WrongLength, NotValid}
 use Rattle.operations.specs.declared.Ran.the-variants.{Done, Refused}

@@ -13,11 +13,12 @@ use Rattle.model.specs.Plan.{Plan}
 use Rattle.model.specs.PlanText.{readPlan}
 use Rattle.model.specs.Planner.{orNext}
 use Rattle.model.specs.Mark.{Run, firstOn, orLater, runFrom}
-use Rattle.path.specs.Layout.{configOf, scanPath, byteBit}
+use Rattle.words.specs.Words.{byteBit}
+use Rattle.path.specs.Layout.{configOf, scanPath}
 use Rattle.path.specs.Answers.{ConfigSized}
 use Rattle.path.specs.Stored.{Stored, PathFound}
-use Rattle.network.specs.declared.draft.Tally.{Tally}
-use Rattle.network.specs.Draws.{Tame}
+use Rattle.draft.specs.declared.store.Tally.{Tally}
+use Rattle.draft.specs.Draws.{Tame}
 use Rattle.operations.specs.declared.Ran.{Ran}
 use Rattle.operations.specs.declared.Ran.the-variants.{Done, Refused}
 use Rattle.operations.specs.declared.Operated.{Operated}

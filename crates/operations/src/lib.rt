@@ -1,5 +1,5 @@
 // The operations of a plan in turn: 15 where the count of bits is not the path length, 16 where the configuration after it is not valid.
-use network::draft::Tally;
+use draft::store::Tally;
 use path::layout::Nodes;
 use path::layout::Way;
 use path::layout::Words;

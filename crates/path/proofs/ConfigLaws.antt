@@ -15,7 +15,8 @@ use Rattle.model.specs.Path.{Walk, bitOf, valueOf, address, pick, walkFrom, nod
 use Rattle.model.specs.Text.{Trit}
 use Rattle.model.proofs.Lists.{length-tabulate, getD-tabulate, true-false}
 use Rattle.model.proofs.WellFormed.{GoodNode, GoodMux}
-use Rattle.path.specs.Layout.{nodeAt, nodesOf, wordWidth, tritAt, tritsOf, configOf, lookIn, SafeNode, Safe}
+use Rattle.words.specs.Words.{wordWidth, tritAt, tritsOf}
+use Rattle.path.specs.Layout.{nodeAt, nodesOf, configOf, lookIn, SafeNode, Safe}
 use Rattle.path.specs.Answers.{stepTo, stepOf, told, Found}
 use Rattle.path.specs.declared.walk.Step.{Step}
 use Rattle.path.specs.declared.walk.Step.the-variants.{Segment, Input, Stop}

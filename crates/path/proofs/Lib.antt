@@ -1,7 +1,4 @@
--- Laws of this crate's definitions.
-pub mod WordLaws
-pub mod WordTests
-pub mod FieldLaws
+-- Laws of nodes, the walk, the path, the load of an operation, and the network that the arrays hold.
 pub mod NodeLaws
 pub mod StepLaws
 pub mod WalkLaws

@@ -15,11 +15,11 @@ use Rattle.model.specs.Network.{lenOf}
 use Rattle.model.specs.Path.{ScanPath, on, share, loads, csu, pathLength}
 use Rattle.model.specs.Text.{Trit}
 use Rattle.model.proofs.Lists.{eqb-is, take-map, drop-map, tabulate-cong, mapFrom-tabulate}
-use Rattle.path.specs.Layout.{nodeAt, wordWidth, allKnown, tritsOf, configOf, segmentAt, scanPath, Way, byteBit}
-use Rattle.path.specs.Words.{wordOf}
+use Rattle.words.specs.Words.{wordWidth, allKnown, tritsOf, byteBit, wordOf}
+use Rattle.path.specs.Layout.{nodeAt, configOf, segmentAt, scanPath, Way}
 use Rattle.path.specs.Answers.{ConfigSized, Loadable, Loads}
 use Rattle.path.proofs.PathLaws.{SegmentOn}
-use Rattle.path.proofs.WordLaws.{trits-loaded}
+use Rattle.words.proofs.WordLaws.{trits-loaded}
 
 -- a node's bits in the two words, and after a load along p
 abbrev row : List ℕ → List ℕ → List ℕ → ℕ → List Trit

@@ -12,7 +12,8 @@ use lib.Dec.{eqb, leb}
 use lib.ListN.{length, getElem?}
 use Rattle.model.specs.Network.{segment, multiplexer, tabulate}
 use Rattle.model.proofs.Lists.{length-tabulate}
-use Rattle.path.specs.Layout.{fieldAt, inputsAt, nodeAt, wordWidth, SafeNode}
+use Rattle.words.specs.Words.{wordWidth}
+use Rattle.path.specs.Layout.{fieldAt, inputsAt, nodeAt, SafeNode}
 
 pub getElem-tabulate : {A : Type 0} (f : ℕ → A) (i n x : ℕ) → x < n → getElem? (tabulate f i n) x ≡ some (f (i + x))
 getElem-tabulate f i zero x h = absurd (not-suc-le-zero h)

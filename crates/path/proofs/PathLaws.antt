@@ -15,7 +15,8 @@ use lib.Seq.{drop-cons, getD-take, length-take-le}
 use Rattle.model.specs.Network.{lenOf}
 use Rattle.model.specs.Path.{path, pathLength, place, on, ScanPath}
 use Rattle.model.specs.Text.{bind}
-use Rattle.path.specs.Layout.{nodeAt, wordWidth, scanPath, Way}
+use Rattle.words.specs.Words.{wordWidth}
+use Rattle.path.specs.Layout.{nodeAt, scanPath, Way}
 use Rattle.path.specs.Answers.{Walkable, Walks, toldFrom, FallsFrom, HoldsPath, told, WalkHeld, Found}
 use Rattle.path.specs.declared.walk.Walked.{Walked}
 use Rattle.path.specs.declared.walk.Walked.the-variants.{Path, Stop as Stopped}

@@ -12,7 +12,8 @@ use lib.Dec.{eqb, ltb}
 use lib.ListN.{length, getD, getElem?}
 use Rattle.model.specs.Path.{bitValue, valueOf, pick}
 use Rattle.model.proofs.Lists.{length-tabulate}
-use Rattle.path.specs.Layout.{fieldAt, inputsAt, nodeAt, wordBit, lookIn}
+use Rattle.words.specs.Words.{wordBit}
+use Rattle.path.specs.Layout.{fieldAt, inputsAt, nodeAt, lookIn}
 use Rattle.path.specs.Answers.{addressIn, stepTo, stepOf}
 use Rattle.path.specs.declared.walk.Step.{Step}
 use Rattle.path.specs.declared.walk.Step.the-variants.{Segment, Input, Stop}

@@ -11,7 +11,8 @@ use Rattle.model.specs.Path.{ScanPath, path, stop, bitOf, walk, walkFrom, nodeO
 use Rattle.model.proofs.Lists.{length-tabulate}
 use Rattle.model.proofs.Walking.{valid-by}
 use Rattle.model.proofs.WellFormed.{GoodNode}
-use Rattle.path.specs.Layout.{nodeAt, nodesOf, configOf, scanPath, byteBit}
+use Rattle.words.specs.Words.{byteBit}
+use Rattle.path.specs.Layout.{nodeAt, nodesOf, configOf, scanPath}
 use Rattle.path.specs.Stored.{Stored, PathFound}
 use Rattle.path.specs.Answers.{Walkable, told, WalkHeld, Found, Loads}
 use Rattle.path.specs.declared.walk.Walked.{Walked}

@@ -13,7 +13,8 @@ use lib.Seq.{drop-cons, getD-take, getD-set-same, take-take, take-set-le}
 use Rattle.model.specs.Network.{Node, segment, multiplexer, lenOf}
 use Rattle.model.specs.Path.{Walk, path, stop, pick, address, onWay, enter, visit, walkFrom}
 use Rattle.model.specs.Text.{Trit}
-use Rattle.path.specs.Layout.{nodeAt, wordWidth, lookIn, segmentAt, scanPath, Way, SafeNode, Safe}
+use Rattle.words.specs.Words.{wordWidth}
+use Rattle.path.specs.Layout.{nodeAt, lookIn, segmentAt, scanPath, Way, SafeNode, Safe}
 use Rattle.path.specs.Answers.{stepTo, stepOf, Walkable, added, toldFrom, FallsFrom, walkedBy, Walks}
 use Rattle.path.specs.declared.walk.Step.{Step}
 use Rattle.path.specs.declared.walk.Step.the-variants.{Segment, Input, Stop}

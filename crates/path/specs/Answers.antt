@@ -10,7 +10,8 @@ use lib.ListN.{length, take, drop}
 use Rattle.model.specs.Text.{Trit}
 use Rattle.model.specs.Network.{Node, segment, multiplexer}
 use Rattle.model.specs.Path.{Walk, path, stop, valueOf, pick, address, walkFrom, pathLength, csu}
-use Rattle.path.specs.Layout.{nodeAt, tritAt, lookIn, scanPath, configOf, Way, Safe, byteBit}
+use Rattle.words.specs.Words.{tritAt, byteBit}
+use Rattle.path.specs.Layout.{nodeAt, lookIn, scanPath, configOf, Way, Safe}
 use Rattle.path.specs.declared.walk.Address.{Address}
 use Rattle.path.specs.declared.walk.Address.the-variants.{Input as AtInput, Unknown}
 use Rattle.path.specs.declared.walk.Step.{Step}

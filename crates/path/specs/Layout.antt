@@ -1,14 +1,14 @@
 -- What the record's arrays mean: eight numbers for each node, two words for each segment's bits, and the segments of a path.
 -- Assumes nothing.
-use mathlib.Core.Bool.{Bool, cond}
-use mathlib.Core.Option.{none, some}
+use mathlib.Core.Bool.{cond}
 use mathlib.Core.List.{List, [], _∷_, map}
-use Prim.Native.Nat.{ℕ, _+_, _-_, _*_, _/_, _%_, _^_, _≤_, _<_}
+use Prim.Native.Nat.{ℕ, _+_, _*_, _≤_, _<_}
 use lib.ListN.{length, getD}
 use lib.Dec.{eqb, ltb}
 use Rattle.model.specs.Text.{Trit}
 use Rattle.model.specs.Network.{Node, segment, multiplexer, Config, lenOf, addressBits, tabulate}
 use Rattle.model.specs.Path.{PathSegment, ScanPath}
+use Rattle.words.specs.Words.{wordWidth, tritAt, tritsOf}
 
 -- ---- nodes: node k has the numbers 8 k to 8 k + 7
 
@@ -32,25 +32,7 @@ nodeAt ns k =
 abbrev pub nodesOf : List ℕ → ℕ → List Node
 nodesOf ns count = tabulate (nodeAt ns) 1 count
 
--- ---- words: "two words a segment, bits and known marks"
-
--- the bits of a word; a segment has no more
-abbrev pub wordWidth : ℕ
-wordWidth = 32
-
--- the word with all bits set
-abbrev pub allKnown : ℕ
-allKnown = 2 ^ wordWidth - 1
-
-abbrev pub wordBit : ℕ → ℕ → Bool
-wordBit w b = eqb (w / 2 ^ b % 2) 1
-
--- bit b of a segment with these two words
-abbrev pub tritAt : ℕ → ℕ → ℕ → Trit
-tritAt bits known b = cond (wordBit known b) (some (wordBit bits b)) none
-
-abbrev pub tritsOf : ℕ → ℕ → ℕ → List Trit
-tritsOf len bits known = tabulate (tritAt bits known) 0 len
+-- ---- bits: two words for each segment, its bits and their known marks
 
 -- the configuration of nodes 1 to count; bits beyond a segment's LEN are free
 unfoldable pub configOf : List ℕ → List ℕ → List ℕ → ℕ → Config
@@ -81,7 +63,3 @@ SafeNode k (multiplexer s b ins) = ((i : ℕ) → i < length ins → getD ins i 
 
 abbrev pub Safe : List ℕ → ℕ → Type 0
 Safe ns n = (k : ℕ) → 1 ≤ k → k ≤ n → SafeNode k (nodeAt ns k)
-
--- a bit of a plan text as a bit
-abbrev pub byteBit : ℕ → Bool
-byteBit b = eqb b 49

@@ -1,5 +1,4 @@
 -- The layout of the record, what the calls of this crate answer, and a network that the arrays hold.
 pub mod Layout
-pub mod Words
 pub mod Answers
 pub mod Stored

@@ -1,11 +1,9 @@
 // The record's arrays and the numbers of a node.
+use words::Word;
 ghost use mathlib.Core.Path.{_≡_};
 ghost use Prim.Native.Nat.{_<_, _≤_};
 ghost use Rattle.model.specs.Network.{lenOf};
 ghost use Rattle.path.specs.Layout.{fieldAt, nodeAt};
-
-// A word of a segment's bits, or of their known marks.
-pub type Word = u32;
 
 // Eight numbers for each node number from 0 to 128.
 pub type Nodes = [u16; 1032];
@@ -28,12 +26,6 @@ pub const SEG: usize = 1;
 pub const BIT: usize = 2;
 
 pub const INPUTS: usize = 4;
-
-// A word of known marks with every bit known.
-pub const ALL_KNOWN: Word = !0;
-
-// The bits of a word. ALL_KNOWN / 255 is 1 in each byte, and modulo 255 it is the count of bytes.
-pub const WORD_BITS: usize = (ALL_KNOWN / 255 % 255 * 8) as usize;
 
 // A number of the record as an index.
 pub fn wide(x: u16) -> usize

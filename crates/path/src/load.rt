@@ -1,11 +1,11 @@
 // The load of a CSU operation: every segment on the path gets its scan-in bits.
-use crate::layout::ALL_KNOWN;
 use crate::layout::Nodes;
 use crate::layout::Way;
 use crate::layout::Words;
 use crate::layout::segment_len;
 use crate::layout::wide;
-use crate::words::loaded;
+use words::ALL_KNOWN;
+use words::loaded;
 ghost use Rattle.path.specs.Answers.{Loadable, Loads};
 
 // Each of the n segments that way holds is loaded with its part of the scan-in bits.

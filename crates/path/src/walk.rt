@@ -2,12 +2,12 @@
 use crate::layout;
 use crate::layout::Nodes;
 use crate::layout::Way;
-use crate::layout::Word;
 use crate::layout::Words;
-use crate::words;
+use words::Word;
 ghost use mathlib.Core.Path.{_≡_};
 ghost use Prim.Native.Nat.{_+_, _<_, _≤_};
-ghost use Rattle.path.specs.Layout.{nodeAt, wordWidth, lookIn, SafeNode};
+ghost use Rattle.words.specs.Words.{wordWidth};
+ghost use Rattle.path.specs.Layout.{nodeAt, lookIn, SafeNode};
 ghost use Rattle.path.specs.Answers.{addressed, addressIn, stepOf, Walkable, walkedBy, Walks, Found};
 
 // The address of a multiplexer, as far as it is known.

@@ -6,7 +6,7 @@ use Prim.Native.Nat.{ℕ, _/_, _%_}
 use native.Mathlib.Nat.{div-zero}
 use borrow.Author.Tests.{eq-eqb, ne-eqb}
 use Rattle.model.specs.Path.{bitValue}
-use Rattle.path.proofs.WordLaws.{value-is}
+use Rattle.words.proofs.WordLaws.{value-is}
 
 -- there is no digit of the weight 0
 pub no-digit : (c w : ℕ) → w ≡ 0 → 0 ≡ c / w % 2

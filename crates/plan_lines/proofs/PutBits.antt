@@ -15,8 +15,8 @@ use Rattle.model.specs.Path.{ScanPath, pathLength}
 use Rattle.model.specs.Plan.{wanted}
 use Rattle.model.specs.Tap.{bitByte}
 use Rattle.model.proofs.Lists.{length-tabulate, tabulate-snoc}
-use Rattle.path.specs.Layout.{wordBit}
-use Rattle.path.proofs.WordLaws.{zero-bit}
+use Rattle.words.specs.Words.{wordBit}
+use Rattle.words.proofs.WordLaws.{zero-bit}
 use Rattle.plan_text.specs.Writing.{writeAt}
 use Rattle.plan_text.proofs.Writing.{write-none, write-more, write-behind, write-same}
 use Rattle.search.specs.Choices.{placesOf, bitAt, leftAt, bitsFrom, leftAfter}

@@ -10,7 +10,8 @@ use lib.Seq.{take-suc}
 use Rattle.model.specs.Network.{Network, lenOf}
 use Rattle.model.specs.Path.{ScanPath, pathLength}
 use Rattle.model.specs.Text.{bytes, lineEnd}
-use Rattle.path.specs.Layout.{nodeAt, wordWidth, segmentAt, scanPath}
+use Rattle.words.specs.Words.{wordWidth}
+use Rattle.path.specs.Layout.{nodeAt, segmentAt, scanPath}
 use Rattle.path.proofs.PathLaws.{SegmentOn, path-end}
 use Rattle.plan_text.specs.Writing.{writeAt}
 use Rattle.plan_text.proofs.Writing.{write-three, write-again, write-at}

@@ -14,10 +14,11 @@ use lib.Seq.{getD-set-same, getD-set-other}
 use Rattle.model.specs.Network.{Target, read, write, lenOf, tabulate}
 use Rattle.model.specs.Plan.{wanted}
 use Rattle.model.proofs.Lists.{getD-tabulate}
-use Rattle.path.specs.Layout.{nodeAt, wordBit}
-use Rattle.path.proofs.WordLaws.{zero-bit}
-use Rattle.network.specs.declared.draft.Tally.{Tally}
-use Rattle.network.specs.Draws.{targetAt, targetsOf}
+use Rattle.words.specs.Words.{wordBit}
+use Rattle.path.specs.Layout.{nodeAt}
+use Rattle.words.proofs.WordLaws.{zero-bit}
+use Rattle.draft.specs.declared.store.Tally.{Tally}
+use Rattle.draft.specs.Draws.{targetAt, targetsOf}
 use Rattle.settings.specs.Route.{Blank, TargetsWithin}
 use Rattle.plan_lines.specs.Line.{WantsOf, wantsWith}
 

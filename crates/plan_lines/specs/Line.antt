@@ -10,10 +10,11 @@ use Rattle.model.specs.Network.{Network, lenOf, steers, tabulate}
 use Rattle.model.specs.Path.{ScanPath, pathLength}
 use Rattle.model.specs.Plan.{wanted}
 use Rattle.model.specs.Tap.{bitByte}
-use Rattle.path.specs.Layout.{nodeAt, wordWidth, wordBit, scanPath}
+use Rattle.words.specs.Words.{wordWidth, wordBit}
+use Rattle.path.specs.Layout.{nodeAt, scanPath}
 use Rattle.path.specs.Answers.{HoldsPath}
-use Rattle.network.specs.declared.draft.Tally.{Tally}
-use Rattle.network.specs.Draws.{targetsOf}
+use Rattle.draft.specs.declared.store.Tally.{Tally}
+use Rattle.draft.specs.Draws.{targetsOf}
 use Rattle.plan_text.specs.Writing.{writeAt, lineText}
 use Rattle.search.specs.Choices.{placesOf, bitsFrom, leftAfter}
 

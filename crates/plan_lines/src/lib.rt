@@ -1,16 +1,16 @@
 // The line of one operation in the plan text, from the number of a choice: each steering bit on the path takes the next binary
 // digit of the choice, the highest first, and every other bit what the planner shifts there, by a list of words for all lines.
-use network::draft::Tally;
+use draft::store::Tally;
 use path::layout::Nodes;
 use path::layout::Way;
-use path::layout::Word;
 use path::layout::Words;
 use path::layout::segment_len;
 use path::layout::wide;
 use path::places::path_length;
-use path::words::bit_at;
 use plan_text::put;
 use plan_text::put_zeros;
+use words::Word;
+use words::bit_at;
 ghost use mathlib.Core.Path.{_≡_};
 ghost use mathlib.Core.Bool.{cond};
 ghost use Prim.Native.Nat.{_+_, _/_, _%_, _<_, _≤_};
@@ -18,8 +18,9 @@ ghost use lib.Dec.{eqb};
 ghost use lib.ListN.{length, take};
 ghost use Rattle.model.specs.Path.{pathLength};
 ghost use Rattle.model.specs.Tap.{bitByte};
-ghost use Rattle.path.specs.Layout.{wordWidth, wordBit, scanPath};
-ghost use Rattle.network.specs.Draws.{Tame};
+ghost use Rattle.words.specs.Words.{wordWidth, wordBit};
+ghost use Rattle.path.specs.Layout.{scanPath};
+ghost use Rattle.draft.specs.Draws.{Tame};
 ghost use Rattle.settings.specs.Route.{Blank, TargetsWithin};
 ghost use Rattle.plan_lines.specs.Line.{wantsWith, WantsOf, ZerosFrom, KeptFrom, SegmentPut, HasRoom, OperationPut, LinePut};
 

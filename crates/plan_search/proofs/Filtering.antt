@@ -11,11 +11,11 @@ use lib.Dec.{ltb}
 use lib.ListN.{length, getD, set}
 use lib.Seq.{getD-set-same, getD-set-other}
 use Rattle.model.proofs.Lists.{and-false-right}
-use Rattle.path.specs.Layout.{wordBit}
-use Rattle.path.proofs.WordLaws.{zero-bit}
-use Rattle.layers.specs.Table.{inSlot, OutOfSlot, Others}
+use Rattle.words.specs.Words.{wordBit}
+use Rattle.words.proofs.WordLaws.{zero-bit}
+use Rattle.goals.specs.Table.{inSlot, OutOfSlot, Others}
 use Rattle.plan_search.specs.Keeping.{Filtered, FilteredSets}
-use Rattle.layers.proofs.SlotLaws.{slot-at, slot-same}
+use Rattle.goals.proofs.SlotLaws.{slot-at, slot-same}
 
 -- the slot is filtered up to setting x
 pub record Filtering (test : ℕ → Bool) (i x : ℕ) (tab tab′ : List ℕ) : Type 0 where

@@ -13,14 +13,14 @@ use Rattle.search.specs.Search.{Sys}
 use Rattle.search.specs.Moves.{sysOf}
 use Rattle.search.specs.Layers.{can}
 use Rattle.search.proofs.Forward.{someOf-same, can-zero, can-step, useful-next}
-use Rattle.layers.specs.Table.{inSlot, layersOf, SlotKnown}
+use Rattle.goals.specs.Table.{inSlot, layersOf, SlotKnown}
 use Rattle.layers.specs.Spreading.{Met}
 use Rattle.plan_search.specs.Keeping.{Filtered, enters, leads, Useful}
-use Rattle.layers.proofs.SlotLaws.{layer-slot, slot-same, slot-other}
+use Rattle.goals.proofs.SlotLaws.{layer-slot, slot-same, slot-other}
 use Rattle.plan_search.proofs.SetTests.{leads-last, leads-before}
 
 -- layers i + 1 to d are kept, and those before are as they were
-pub record KeptFrom (net : Network) (start d i : ℕ) (old tab : List ℕ) : Type 0 where
+pub record KeptDown (net : Network) (start d i : ℕ) (old tab : List ℕ) : Type 0 where
   pub kept : (j s : ℕ) → i < j → j ≤ d → layersOf start tab j s ≡ (layersOf start old j s && can (sysOf net) (d - j) s)
   pub before : (n : ℕ) → n < i * 729 → getD tab n 0 ≡ getD old n 0
   pub size : length tab ≡ length old
@@ -30,12 +30,12 @@ module _ (net : Network) (start d : ℕ) (old : List ℕ) where
   abbrev M : Sys
   M = sysOf net
 
-  pub kept-none : KeptFrom net start d d old old
+  pub kept-none : KeptDown net start d d old old
   kept-none = record { kept = λ j s a b. absurd (omega arith); before = λ n lt. refl; size = refl; beyond = λ n le. refl }
 
   -- ---- one layer more
 
-  module _ (i k : ℕ) (tab : List ℕ) (z : k ≡ i + 1) (most : k ≤ d) (few : d ≤ 16) (met : Met net start old d) (h : KeptFrom net start d k old tab) where
+  module _ (i k : ℕ) (tab : List ℕ) (z : k ≡ i + 1) (most : k ≤ d) (few : d ≤ 16) (met : Met net start old d) (h : KeptDown net start d k old tab) where
     here : (s : ℕ) → inSlot tab i s ≡ inSlot old i s
     here s = slot-same old tab i s (λ less. h .before (i * 729 + s / 16) (omega arith))
 
@@ -64,7 +64,7 @@ module _ (net : Network) (start d : ℕ) (old : List ℕ) where
               leads-last net tab d i (omega arith) s ∙ sym (ap (λ (n : ℕ). can M n s) w ∙ can-zero M s)
         ]
 
-    pub kept-next : (tab′ : List ℕ) → (SlotKnown net tab i → Filtered (leads net tab d i) i tab tab′) → KeptFrom net start d i old tab′
+    pub kept-next : (tab′ : List ℕ) → (SlotKnown net tab i → Filtered (leads net tab d i) i tab tab′) → KeptDown net start d i old tab′
     kept-next tab′ f₀ = record {
       kept = kept;
       before = λ n less. f .only .others n (inl less) ∙ h .before n (omega arith);
@@ -98,5 +98,5 @@ module _ (net : Network) (start d : ℕ) (old : List ℕ) where
 
   -- ---- all layers
 
-  pub kept-all : (i : ℕ) (tab : List ℕ) → i ≤ 0 → KeptFrom net start d i old tab → Useful net start d old tab
+  pub kept-all : (i : ℕ) (tab : List ℕ) → i ≤ 0 → KeptDown net start d i old tab → Useful net start d old tab
   kept-all i tab z h = record { kept = λ j s a b. h .kept j s (omega arith) b; size = h .size; beyond = h .beyond }

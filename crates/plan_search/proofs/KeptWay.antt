@@ -15,7 +15,7 @@ use Rattle.model.specs.Network.{Network}
 use Rattle.model.specs.NetworkText.{isSome}
 use Rattle.model.specs.Calls.{writeOver}
 use Rattle.model.proofs.Lists.{and-parts, some-same, none-some}
-use Rattle.path.specs.Layout.{wordBit}
+use Rattle.words.specs.Words.{wordBit}
 use Rattle.search.specs.Search.{Sys, planIn, ifGoal, FirstAt}
 use Rattle.search.specs.Moves.{count, gain, land, reached, goes, sysOf}
 use Rattle.search.specs.Layers.{can}
@@ -23,12 +23,12 @@ use Rattle.search.proofs.Forward.{Traced, trace-step, least-plan, useful-next}
 use Rattle.steering.specs.declared.Problem.{Problem}
 use Rattle.settings.specs.Route.{Prepared}
 use Rattle.rows.specs.Rows.{rowNumber, RowsRight, Lands, LandsIn, LandsOf}
-use Rattle.layers.specs.Table.{layersOf}
+use Rattle.goals.specs.Table.{layersOf}
 use Rattle.plan_search.specs.Keeping.{Kept}
 use Rattle.plan_search.specs.Plans.{PlanTraced}
 use Rattle.plan_search.proofs.SetTests.{into-slot}
 use Rattle.rows.proofs.RowLaws.{land-small, gain-small, gain-read, lands-of}
-use Rattle.layers.proofs.SlotLaws.{layer-slot}
+use Rattle.goals.proofs.SlotLaws.{layer-slot}
 
 -- the way has come to setting x with the targets m, and i choices are written
 pub record Tracing (net : Network) (start d : ℕ) (tab : List ℕ) (K : Kept net start d tab) (old out : List ℕ) (x m i : ℕ) : Type 0 where

@@ -13,16 +13,16 @@ use lib.ListN.{getD}
 use borrow.Author.Tests.{lt-ltb, eq-eqb, ne-eqb, eqb-true, eqb-false}
 use Rattle.model.specs.Network.{Network}
 use Rattle.model.proofs.Lists.{and-false-right}
-use Rattle.path.specs.Layout.{wordBit}
-use Rattle.path.proofs.WordLaws.{zero-bit}
-use Rattle.path.proofs.WordTests.{wordBit-or, wordBit-pow}
+use Rattle.words.specs.Words.{wordBit}
+use Rattle.words.proofs.WordLaws.{zero-bit}
+use Rattle.words.proofs.WordTests.{wordBit-or, wordBit-pow}
 use Rattle.search.specs.Moves.{allOf, count, gain, land, reached, goes, sysOf}
 use Rattle.search.specs.Layers.{someOf}
 use Rattle.search.proofs.Forward.{someOf-same, someOf-snoc}
 use Rattle.rows.specs.Rows.{LandsOf}
-use Rattle.layers.specs.Table.{inSlot, Others}
+use Rattle.goals.specs.Table.{inSlot, Others}
 use Rattle.plan_search.specs.Keeping.{FilteredSets, enters, leads, UnionOf}
-use Rattle.layers.proofs.SlotLaws.{slot-at, slot-other}
+use Rattle.goals.proofs.SlotLaws.{slot-at, slot-other}
 
 -- ---- the goal
 

@@ -7,10 +7,10 @@ use Prim.Native.Nat.{ℕ, _+_, _*_, _-_, _≤_, _<_}
 use lib.Dec.{eqb}
 use lib.ListN.{length, getD}
 use Rattle.model.specs.Network.{Network}
-use Rattle.path.specs.Layout.{wordBit}
+use Rattle.words.specs.Words.{wordBit}
 use Rattle.search.specs.Moves.{sysOf}
 use Rattle.search.specs.Layers.{can, someOf}
-use Rattle.layers.specs.Table.{inSlot, layersOf, OnlySlot}
+use Rattle.goals.specs.Table.{inSlot, layersOf, OnlySlot}
 use Rattle.layers.specs.Spreading.{Met}
 
 -- slot i with the states that pass the test

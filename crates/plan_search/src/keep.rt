@@ -20,7 +20,7 @@ ghost use lib.ListN.{length, getD};
 ghost use Rattle.search.specs.Moves.{allOf, sysOf};
 ghost use Rattle.settings.specs.Route.{Plannable, Each};
 ghost use Rattle.rows.specs.Rows.{RowsRight, Landing, OfRow};
-ghost use Rattle.layers.specs.Table.{SlotKnown};
+ghost use Rattle.goals.specs.Table.{SlotKnown};
 ghost use Rattle.layers.specs.Spreading.{Met, Starts};
 ghost use Rattle.plan_search.specs.Keeping.{Filtered, FilteredSets, enters, leads, UnionOf, Useful};
 

@@ -1,7 +1,7 @@
 // The search: the fewest operations from the start to all targets, or nothing. The search space is cleared.
 use crate::keep::keep_all;
 use crate::trace::trace;
-use layers::spread::find_layer;
+use layers::find_layer;
 use path::layout::Nodes;
 use path::layout::Words;
 use rows::Rows;

@@ -14,7 +14,7 @@ ghost use mathlib.Core.Path.{_≡_};
 ghost use mathlib.Core.Bool.{true};
 ghost use Prim.Native.Nat.{ℕ, _+_, _*_, _≤_, _<_};
 ghost use lib.ListN.{length, getD};
-ghost use Rattle.path.specs.Layout.{wordBit};
+ghost use Rattle.words.specs.Words.{wordBit};
 ghost use Rattle.search.specs.Search.{FirstAt};
 ghost use Rattle.settings.specs.Route.{Plannable, Each};
 ghost use Rattle.rows.specs.Rows.{RowsRight};

@@ -1,4 +1,5 @@
--- A buffer written from a place on: one byte more, one write behind another, and the writes of a plan's lines in turn.
+-- A buffer written from a place on: what is written and what stays, one byte more, a write behind another or over it, and the writes of
+-- a plan's lines in turn.
 -- Assumes nothing.
 use mathlib.Core.Path.{_≡_, refl, sym, ap, _∙_}
 use mathlib.Core.Bool.{Bool}

@@ -17,24 +17,10 @@ use Rattle.model.specs.Planner.{planFor}
 use Rattle.model.specs.Calls.{writeOver, written, countOf, ifRoom, searchEntries, searchable, planned, cleared, PlanAnswer, makePlan}
 use Rattle.network.specs.declared.reader.Network.{Network}
 use Rattle.network.specs.Reads.{networkOf}
-use Rattle.planner.specs.declared.writer.Planned.{Planned}
-use Rattle.planner.specs.declared.writer.Planned.the-variants.{Written, Refused}
-use Rattle.planner.specs.Writing.{answerOf, Given}
+use Rattle.plan_writer.specs.declared.Planned.{Planned}
+use Rattle.plan_writer.specs.declared.Planned.the-variants.{Refused}
+use Rattle.plan_writer.specs.Writing.{answerOf, Given}
 use Rattle.planner.specs.Call.{PlansIn}
-
--- ---- the text, by the room for it
-
-module _ (text : Bytes) (old : List ℕ) (needed : ℕ) (is : needed ≡ length text) where
-  -- 13
-  pub given-short : length old < needed → Given text old (Refused 13 needed) old
-  given-short h =
-      let e : ifRoom (length old) text ≡ refused 13 needed = rw (lt-ltb (length old) (length text) (omega arith)) (ap (refused 13) (sym is)) in
-      record { result = ap countOf (sym e); left = ap (λ (x : Result (List ℕ)). written x old) (sym e) }
-
-  pub given-written : needed ≤ length old → (new : List ℕ) → new ≡ writeOver text old → Given text old (Written needed) new
-  given-written h new w =
-      let e : ifRoom (length old) text ≡ ok text = rw (le-ltb (length old) (length text) (omega arith)) in
-      record { result = ap ok is ∙ ap countOf (sym e); left = w ∙ ap (λ (x : Result (List ℕ)). written x old) (sym e) }
 
 -- ---- the answer of the search
 

@@ -23,8 +23,8 @@ use Rattle.search.proofs.Decoded.{plan-follows}
 use Rattle.plan_search.specs.declared.plan.Found.{Found}
 use Rattle.plan_search.specs.declared.plan.Found.the-variants.{Operations, Nothing}
 use Rattle.plan_search.specs.Plans.{foundOf, withChoices, PlanFound}
-use Rattle.planner.specs.Writing.{Picked}
-use Rattle.planner.proofs.WholeText.{choice-held}
+use Rattle.plan_writer.specs.Writing.{Picked}
+use Rattle.plan_writer.proofs.WholeText.{choice-held}
 
 -- ---- the length of a plan
 

@@ -1,7 +1,5 @@
--- Laws of the planner: the record of an accepted network, the whole text, the search for one network, and the whole call.
+-- Laws of the planner: the record of an accepted network, the search for one network, and the whole call.
 pub mod Records
-pub mod WholeText
-pub mod Writings
 pub mod Finding
 pub mod Calling
 pub mod Planning

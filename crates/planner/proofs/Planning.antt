@@ -13,7 +13,7 @@ use Rattle.model.proofs.Lists.{zero-at, length-tabulate}
 use Rattle.path.specs.Layout.{lookIn}
 use Rattle.plan_text.proofs.Writing.{over-none}
 use Rattle.network.specs.declared.reader.Network.{Network}
-use Rattle.network.specs.Draws.{targetAt}
+use Rattle.draft.specs.Draws.{targetAt}
 use Rattle.network.specs.Reads.{networkOf}
 use Rattle.search.specs.Settings.{settingOf, numberOf}
 use Rattle.search.specs.Moves.{decode}
@@ -28,13 +28,14 @@ use Rattle.plan_search.specs.declared.plan.Found.{Found}
 use Rattle.plan_search.specs.declared.plan.Found.the-variants.{Operations, Nothing}
 use Rattle.layers.specs.Spreading.{Starts}
 use Rattle.plan_search.specs.Plans.{PlanFound}
-use Rattle.planner.specs.declared.writer.Planned.{Planned}
-use Rattle.planner.specs.declared.writer.Planned.the-variants.{Written, Refused}
-use Rattle.planner.specs.Writing.{CountsOf, Countable, GivesText}
+use Rattle.plan_writer.specs.declared.Planned.{Planned}
+use Rattle.plan_writer.specs.declared.Planned.the-variants.{Written, Refused}
+use Rattle.plan_writer.specs.Writing.{CountsOf, Countable, GivesText}
 use Rattle.planner.specs.Call.{Searchable, PlansIn}
 use Rattle.planner.proofs.Records.{record-planned, record-number}
 use Rattle.planner.proofs.Finding.{plan-empty, found-nothing, FoundPlan, found-plan}
-use Rattle.planner.proofs.Calling.{given-written, plans-none, plans-given}
+use Rattle.plan_writer.proofs.Given.{given-written}
+use Rattle.planner.proofs.Calling.{plans-none, plans-given}
 
 -- a table of zeros has no row yet
 pub rows-none : (ns steering : List ℕ) (pb : Problem) → RowsRight ns steering pb (replicate 8019 0)

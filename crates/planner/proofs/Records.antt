@@ -10,10 +10,11 @@ use Rattle.model.specs.Network.{Node, at, noNode, lenOf, steeringBits}
 use Rattle.model.specs.Path.{bitOf}
 use Rattle.model.proofs.Accepted.{Accepted}
 use Rattle.model.proofs.Lists.{length-tabulate}
-use Rattle.path.specs.Layout.{nodeAt, nodesOf, wordWidth, configOf, lookIn}
+use Rattle.words.specs.Words.{wordWidth}
+use Rattle.path.specs.Layout.{nodeAt, nodesOf, configOf, lookIn}
 use Rattle.path.proofs.ConfigLaws.{config-bit, at-tabulate, good-most}
 use Rattle.network.specs.declared.reader.Network.{Network}
-use Rattle.network.specs.Draws.{Short, targetsOf}
+use Rattle.draft.specs.Draws.{Short, targetsOf}
 use Rattle.network.specs.Reads.{networkOf, Filled}
 use Rattle.search.specs.Settings.{settingOf, numberOf}
 use Rattle.search.proofs.Steering.{steering-bit}

@@ -9,8 +9,8 @@ use Rattle.model.specs.Calls.{writeOver, written, countOf, searchEntries, plann
 use Rattle.model.proofs.Accepted.{Accepted}
 use Rattle.network.specs.declared.reader.Network.{Network}
 use Rattle.network.specs.Reads.{networkOf, Filled}
-use Rattle.planner.specs.declared.writer.Planned.{Planned}
-use Rattle.planner.specs.Writing.{answerOf}
+use Rattle.plan_writer.specs.declared.Planned.{Planned}
+use Rattle.plan_writer.specs.Writing.{answerOf}
 
 -- an accepted network that came past the checks 10 and 12
 pub record Searchable (r : Network) (search : List ℕ) : Type 0 where

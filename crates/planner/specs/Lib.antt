@@ -1,4 +1,3 @@
--- What the contracts of the planner cite: the whole text, the call, and the demand on it.
-pub mod Writing
+-- What the contracts of the planner cite: the call, and the demand on it.
 pub mod Call
 pub mod Demand

@@ -1,6 +1,4 @@
 // The planner: a network text to the plan with the fewest operations.
-use crate::writer::Planned;
-use crate::writer::write_plan;
 use network::reader::Network;
 use network::reader::Verdict;
 use network::reader::read_network;
@@ -8,6 +6,8 @@ use path::layout::wide;
 use plan_search::plan::Found;
 use plan_search::plan::clear;
 use plan_search::plan::find_plan;
+use plan_writer::Planned;
+use plan_writer::write_plan;
 use rows::Rows;
 use rows::power_of_2;
 use steering::problem_of;
@@ -15,10 +15,8 @@ use steering::setting_number;
 ghost use mathlib.Core.Path.{_≡_};
 ghost use Prim.Native.Nat.{_≤_};
 ghost use Rattle.model.specs.Calls.{makePlan};
-ghost use Rattle.planner.specs.Writing.{answerOf};
+ghost use Rattle.plan_writer.specs.Writing.{answerOf};
 ghost use Rattle.planner.specs.Call.{Searchable, PlansIn};
-
-pub mod writer;
 
 // The most steering bits, and the entries of the search space.
 const MOST_STEERING: usize = 6;

@@ -1,6 +1,6 @@
 // The plan program's lines.
+use plan_writer::Planned;
 use planner::make_plan;
-use planner::writer::Planned;
 
 // What planning for a network text gives: the plan text, which may have no lines.
 pub fn show(network: &[u8]) {

@@ -10,9 +10,9 @@ use borrow.Author.Tests.{ne-eqb, eqb-true}
 use lib.Bits.{bitAnd, bitOr, and-mask, or-lt, or-zero-r}
 use lib.Dec.{eqb}
 use Rattle.model.proofs.Lists.{true-false, eqb-same, or-left, or-right, and-parts, and-false-right, and-true-right, or-false-right}
-use Rattle.path.specs.Layout.{wordBit}
-use Rattle.path.proofs.WordLaws.{zero-bit}
-use Rattle.path.proofs.WordTests.{wordBit-or, wordBit-and, wordBit-pow}
+use Rattle.words.specs.Words.{wordBit}
+use Rattle.words.proofs.WordLaws.{zero-bit}
+use Rattle.words.proofs.WordTests.{wordBit-or, wordBit-and, wordBit-pow}
 use Rattle.sets.specs.Sets.{JoinedAt, KeptAt, Before, Joined}
 
 -- ---- one bit

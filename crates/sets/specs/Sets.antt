@@ -5,7 +5,7 @@ use mathlib.Core.Bool.{true, _&&_, _||_}
 use Prim.Native.Nat.{ℕ, _<_}
 use lib.Dec.{eqb}
 use lib.Bits.{bitOr}
-use Rattle.path.specs.Layout.{wordBit}
+use Rattle.words.specs.Words.{wordBit}
 
 -- q has what r has and, if m is in sets, m and g together
 abbrev pub JoinedAt : ℕ → ℕ → ℕ → ℕ → ℕ → Type 0

@@ -3,7 +3,7 @@ ghost use mathlib.Core.Path.{_≡_};
 ghost use mathlib.Core.Bool.{_&&_};
 ghost use Prim.Native.Nat.{ℕ, _^_, _<_};
 ghost use lib.Bits.{bitOr};
-ghost use Rattle.path.specs.Layout.{wordBit};
+ghost use Rattle.words.specs.Words.{wordBit};
 ghost use Rattle.sets.specs.Sets.{Joined, JoinedAt, KeptAt};
 
 // A set of targets as the count of a shift.

@@ -12,10 +12,10 @@ use lib.ListN.{getD}
 use borrow.Author.Tests.{eq-eqb, ne-eqb}
 use Rattle.model.specs.Network.{tabulate}
 use Rattle.model.specs.Path.{ScanPath, bitValue, on}
-use Rattle.path.proofs.WordLaws.{value-is}
-use Rattle.network.specs.declared.draft.Tally.{Tally}
-use Rattle.network.specs.Draws.{Tame, targetAt}
-use Rattle.network.proofs.Records.{segment-at}
+use Rattle.words.proofs.WordLaws.{value-is}
+use Rattle.draft.specs.declared.store.Tally.{Tally}
+use Rattle.draft.specs.Draws.{Tame, targetAt}
+use Rattle.draft.proofs.TargetLaws.{target-names}
 use Rattle.search.specs.Settings.{baseOf}
 use Rattle.search.specs.Moves.{maskOf, onPath}
 use Rattle.steering.specs.Steering.{pairAt}
@@ -100,7 +100,7 @@ module _ (marks : List ℕ) (t : Tally) (tame : Tame t) where
     masked-more s lt e within most = record {
       passed = omega (arith, q .passed);
       is = λ ns p m.
-          let here : getD marks s 0 ≡ bitValue (onPath p (targetAt ns t (i - 1))) = m s within ∙ ap (λ (r : ℕ). bitValue (on p r)) (e ∙ sym (segment-at ns t (i - 1))) in
+          let here : getD marks s 0 ≡ bitValue (onPath p (targetAt ns t (i - 1))) = m s within ∙ ap (λ (r : ℕ). bitValue (on p r)) (e ∙ sym (target-names ns t (i - 1))) in
           rw (front (targetAt ns t) (t .«target_count») i lt (q .passed)) (omega (arith, here, q .is ns p m));
       small = omega (arith, q .small, more-digits 2 (t .«target_count») i lt (q .passed));
     }

@@ -15,7 +15,7 @@ use Rattle.model.proofs.Lists.{eqb-is}
 use Rattle.path.specs.Layout.{scanPath}
 use Rattle.path.specs.Answers.{HoldsPath}
 use Rattle.path.proofs.PathLaws.{segment-on}
-use Rattle.network.proofs.Counting.{value-most}
+use Rattle.words.proofs.WordLaws.{value-small}
 use Rattle.settings.specs.Route.{Blank, MarksOf, PathMarked, Flags}
 
 -- ---- one segment more
@@ -74,4 +74,4 @@ module _ (held way : List ℕ) (n : ℕ) (h : HoldsPath held way n) (i : ℕ) (m
 -- ---- the marks are 0 or 1
 
 pub marks-flags : (way : List ℕ) (n : ℕ) (marks : List ℕ) → PathMarked way n marks → Flags marks
-marks-flags way n marks p s l = omega (arith, p .marked [] s l, value-most (on (scanPath [] (take n way)) s))
+marks-flags way n marks p s l = omega (arith, p .marked [] s l, value-small (on (scanPath [] (take n way)) s))

@@ -12,15 +12,16 @@ use Rattle.model.specs.Network.{Node, Target, read, Network, at, noNode, isSegm
 use Rattle.model.specs.NetworkText.{targetSegment}
 use Rattle.model.specs.Path.{bitOf}
 use Rattle.model.proofs.Lists.{length-tabulate, getD-tabulate, true-false}
-use Rattle.path.specs.Layout.{nodeAt, wordWidth, wordBit, configOf}
+use Rattle.words.specs.Words.{wordWidth, wordBit}
+use Rattle.path.specs.Layout.{nodeAt, configOf}
 use Rattle.path.specs.Answers.{Walkable, told, Found}
 use Rattle.path.specs.declared.walk.Walked.{Walked}
 use Rattle.path.proofs.ConfigLaws.{config-bit, at-tabulate, good-most}
 use Rattle.path.proofs.StoredLaws.{found-walk, stored-walkable}
-use Rattle.path.proofs.WordLaws.{zero-bit}
-use Rattle.network.specs.Draws.{targetAt, targetsOf}
-use Rattle.network.proofs.BadAddresses.{node-beyond}
-use Rattle.network.proofs.Records.{fits-segment, segment-at}
+use Rattle.words.proofs.WordLaws.{zero-bit}
+use Rattle.draft.specs.Draws.{targetAt, targetsOf}
+use Rattle.draft.proofs.BadAddresses.{node-beyond}
+use Rattle.draft.proofs.TargetLaws.{fits-segment, target-names}
 use Rattle.search.specs.Settings.{Distinct, lookUp, walkAt}
 use Rattle.search.proofs.Steering.{distinct-bits, SteeringBit, steering-bit, bit-listed, getD-in}
 use Rattle.search.proofs.SameWalk.{walk-same}
@@ -81,7 +82,7 @@ module _ (net : Network) (ns steering : List ℕ) (pb : Problem) (p : Prepared n
       subst (List·Memᴰ (targetAt ns (pb .tally) i)) (sym (p .targets-are)) (subst (λ (x : Target). List·Memᴰ x (targetsOf ns (pb .tally))) e m)
 
   pub planned-targets : TargetsWithin (pb .tally)
-  planned-targets i l = by (getD (pb .tally .«target_segment») i 0) (sym (segment-at ns (pb .tally) i)) (decLt 128 (getD (pb .tally .«target_segment») i 0))
+  planned-targets i l = by (getD (pb .tally .«target_segment») i 0) (sym (target-names ns (pb .tally) i)) (decLt 128 (getD (pb .tally .«target_segment») i 0))
     where
       fits : isSegment (at (net .nodes) (targetSegment (targetAt ns (pb .tally) i)) noNode) ≡ true
       fits = fits-segment (net .nodes) (targetAt ns (pb .tally) i) (p .accepted .targets-fit .fits (targetAt ns (pb .tally) i) (target-in i l))

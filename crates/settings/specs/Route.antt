@@ -7,12 +7,13 @@ use lib.ListN.{length, getD, take}
 use Rattle.model.specs.Network.{Network, steers, steeringBits}
 use Rattle.model.specs.Path.{ScanPath, bitValue, on}
 use Rattle.model.proofs.Accepted.{Accepted}
-use Rattle.path.specs.Layout.{scanPath, wordWidth, wordBit}
+use Rattle.words.specs.Words.{wordWidth, wordBit}
+use Rattle.path.specs.Layout.{scanPath}
 use Rattle.path.specs.Answers.{told, WalkHeld}
 use Rattle.path.specs.declared.walk.Walked.{Walked}
 use Rattle.path.specs.Stored.{Stored}
-use Rattle.network.specs.declared.draft.Tally.{Tally}
-use Rattle.network.specs.Draws.{Tame, targetsOf}
+use Rattle.draft.specs.declared.store.Tally.{Tally}
+use Rattle.draft.specs.Draws.{Tame, targetsOf}
 use Rattle.search.specs.Settings.{walkAt, indicesIn, order, baseOf}
 use Rattle.search.specs.Moves.{maskOf, onPath}
 use Rattle.steering.specs.declared.Problem.{Problem}

@@ -1,6 +1,6 @@
 // The walk in a setting of the steering bits, and what its path has: the steering bits in the order of their places, the targets,
 // and the digits of the steering bits beside it.
-use network::draft::Tally;
+use draft::store::Tally;
 use path::layout::Nodes;
 use path::layout::Way;
 use path::layout::Words;
@@ -16,7 +16,7 @@ ghost use Prim.Native.Nat.{ℕ, _/_, _%_, _^_, _≤_, _<_};
 ghost use lib.Dec.{eqb};
 ghost use lib.ListN.{length, getD};
 ghost use Rattle.path.specs.Answers.{HoldsPath};
-ghost use Rattle.network.specs.Draws.{Tame};
+ghost use Rattle.draft.specs.Draws.{Tame};
 ghost use Rattle.steering.specs.Steering.{Within};
 ghost use Rattle.settings.specs.Route.{Blank, PathMarked, Flags, Room, IndicesBehind, Ordered, Steers, BaseBy, TargetsWithin, MaskBy, Plannable, Each, WalkIs};
 

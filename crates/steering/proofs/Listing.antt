@@ -12,7 +12,8 @@ use lib.Seq.{getD-set-same, getD-set-other}
 use Rattle.model.specs.Network.{Node, lenOf, tabulate, steers, steeringIn, steeringFrom, steeringBits}
 use Rattle.model.specs.Path.{bitValue}
 use Rattle.model.proofs.Lists.{length-tabulate, tabulate-cong, tabulate-snoc}
-use Rattle.path.specs.Layout.{nodeAt, nodesOf, wordWidth, wordBit}
+use Rattle.words.specs.Words.{wordWidth, wordBit}
+use Rattle.path.specs.Layout.{nodeAt, nodesOf}
 use Rattle.steering.specs.Steering.{pairAt, bitsOf, Pairs, markedIn, Behind, Steered}
 
 pub length-bits : (segments places : List ℕ) (k : ℕ) → length (bitsOf segments places k) ≡ k

@@ -11,7 +11,7 @@ use lib.ListN.{getD}
 use Rattle.model.specs.Network.{tabulate}
 use Rattle.model.specs.Path.{bitValue}
 use Rattle.model.proofs.Lists.{length-tabulate}
-use Rattle.path.specs.Layout.{wordBit, tritAt}
+use Rattle.words.specs.Words.{wordBit, tritAt}
 use Rattle.search.specs.Settings.{digitOf, Look, settingOf}
 use Rattle.search.proofs.SettingNumbers.{setting-small}
 use Rattle.steering.specs.Steering.{pairAt, bitsOf}

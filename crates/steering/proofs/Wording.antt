@@ -13,10 +13,11 @@ use lib.ListN.{length, getD, set, length-set}
 use lib.Seq.{getD-set-same, getD-set-other}
 use borrow.Author.Tests.{eq-eqb}
 use Rattle.model.proofs.Lists.{getD-tabulate, eqb-same, eqb-is, true-false, or-false-right, and-true-right}
-use Rattle.path.specs.Layout.{wordBit, lookIn}
+use Rattle.words.specs.Words.{wordBit}
+use Rattle.path.specs.Layout.{lookIn}
 use Rattle.path.specs.Answers.{ConfigSized}
-use Rattle.path.proofs.WordLaws.{zero-bit}
-use Rattle.network.specs.Store.{BitMarked}
+use Rattle.words.proofs.WordLaws.{zero-bit}
+use Rattle.draft.specs.Store.{BitMarked}
 use Rattle.search.specs.Settings.{Distinct, distinct-cons, tritOf, lookUp}
 use Rattle.search.proofs.Steering.{getD-in}
 use Rattle.search.proofs.SettingNumbers.{look-at, place-other}

@@ -7,10 +7,11 @@ use Prim.Native.Nat.{ℕ, zero, suc, _≤_, _<_}
 use lib.Dec.{eqb, ltb}
 use lib.ListN.{length, getD}
 use Rattle.model.specs.Network.{tabulate, steers, steeringBits}
-use Rattle.path.specs.Layout.{nodesOf, wordWidth, wordBit, lookIn}
+use Rattle.words.specs.Words.{wordWidth, wordBit}
+use Rattle.path.specs.Layout.{nodesOf, lookIn}
 use Rattle.path.specs.Answers.{ConfigSized}
-use Rattle.network.specs.declared.draft.Tally.{Tally}
-use Rattle.network.specs.Draws.{Short}
+use Rattle.draft.specs.declared.store.Tally.{Tally}
+use Rattle.draft.specs.Draws.{Short}
 use Rattle.search.specs.Settings.{Distinct, lookUp}
 use Rattle.steering.specs.declared.Problem.{Problem}
 

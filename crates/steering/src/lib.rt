@@ -1,16 +1,17 @@
 // The steering bits of a network in order, and their settings by number: words from a number, and a number from words.
-use network::draft::Tally;
-use network::draft::mark_bit;
+use draft::store::Tally;
+use draft::store::mark_bit;
 use path::layout::Nodes;
-use path::layout::Word;
 use path::layout::Words;
 use path::layout::segment_len;
-use path::words::bit_at;
+use words::Word;
+use words::bit_at;
 ghost use mathlib.Core.Path.{_≡_};
 ghost use Prim.Native.Nat.{_+_, _<_, _≤_};
 ghost use lib.ListN.{length};
 ghost use Rattle.model.specs.Network.{steeringBits};
-ghost use Rattle.path.specs.Layout.{nodesOf, wordWidth, tritAt, lookIn};
+ghost use Rattle.words.specs.Words.{wordWidth, tritAt};
+ghost use Rattle.path.specs.Layout.{nodesOf, lookIn};
 ghost use Rattle.path.specs.Answers.{ConfigSized};
 ghost use Rattle.search.specs.Settings.{digitOf, settingOf};
 ghost use Rattle.steering.specs.Steering.{bitsOf, steeringOf, markedIn, Steered, ProblemOf, Pairs, Behind, Within, Listed, Cleared, DigitSet, SetTo};

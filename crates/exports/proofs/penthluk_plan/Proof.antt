@@ -1,6 +1,6 @@
 -- `exports::penthluk_plan` meets its contract: the numbers by the answer, the buffers as the planner leaves them.
 -- Assumes nothing.
-use Rattle.planner.specs.Writing.{answerOf}
+use Rattle.plan_writer.specs.Writing.{answerOf}
 use Rattle.exports.proofs.Counted.{by-answer}
 use borrow.Author.Needs.{needs}
 use Rattle.exports.proofs.penthluk_plan.Statement.{statement}

@@ -5,9 +5,9 @@ use Prim.Native.Nat.{ℕ}
 use borrow.Author.Needs.{needs}
 use lib.Dec.{eqb}
 use Rattle.model.specs.Tap.{bitByte}
-use Rattle.path.specs.Layout.{wordBit}
+use Rattle.words.specs.Words.{wordBit}
 use Rattle.plan_lines.proofs.Digits.{bit-set, bit-clear}
-use Rattle.path.proofs.WordLaws.{value-is}
+use Rattle.words.proofs.WordLaws.{value-is}
 use Rattle.plan_lines.proofs.byte_at.Statement.{statement}
 use Rattle.plan_lines.proofs.byte_at.Tie as tie
 

@@ -1,7 +1,7 @@
 -- `plan_lines::left_behind` meets its contract.
 -- Assumes nothing.
 use borrow.Author.Needs.{needs}
-use Rattle.path.specs.Layout.{wordBit}
+use Rattle.words.specs.Words.{wordBit}
 use Rattle.plan_lines.proofs.Digits.{bit-set, bit-clear}
 use Rattle.plan_lines.proofs.left_behind.Statement.{statement}
 use Rattle.plan_lines.proofs.left_behind.Tie as tie

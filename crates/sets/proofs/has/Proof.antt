@@ -1,7 +1,7 @@
 -- `sets::has` meets its contract: the bit by a shift and a mask.
 -- Assumes nothing.
 use mathlib.Core.Path.{ap, _∙_}
-use Rattle.path.specs.Layout.{wordBit}
+use Rattle.words.specs.Words.{wordBit}
 use Rattle.sets.proofs.SetLaws.{bit-tested}
 use borrow.Author.Needs.{needs}
 use Rattle.sets.proofs.has.Statement.{statement}

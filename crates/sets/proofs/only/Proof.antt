@@ -3,7 +3,7 @@
 use mathlib.Core.Path.{ap, _∙_}
 use Prim.Native.Nat.{ℕ, _^_}
 use native.Mathlib.Omega.{arith}
-use Rattle.path.proofs.WordLaws.{only-place}
+use Rattle.words.proofs.WordLaws.{only-place}
 use borrow.Author.Needs.{needs}
 use Rattle.sets.proofs.only.Statement.{statement}
 use Rattle.sets.proofs.only.Tie as tie

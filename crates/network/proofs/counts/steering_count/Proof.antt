@@ -3,8 +3,8 @@
 -- Assumes nothing.
 use lib.ListN.{getD}
 use Rattle.network.proofs.Counting.{sum-start, sum-step, sum-end}
-use Rattle.path.specs.Layout.{wordWidth}
-use Rattle.network.specs.Draws.{Short}
+use Rattle.words.specs.Words.{wordWidth}
+use Rattle.draft.specs.Draws.{Short}
 use Rattle.network.specs.Counts.{countIn, countFrom}
 use borrow.Author.Needs.{needs}
 use native.Mathlib.Omega.{arith}

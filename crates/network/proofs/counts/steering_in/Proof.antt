@@ -1,7 +1,8 @@
 -- `network::counts::steering_in` meets its contract.
 -- Assumes nothing.
-use Rattle.path.specs.Layout.{wordWidth, wordBit}
-use Rattle.network.proofs.Counting.{value-most, count-start, count-step, count-end}
+use Rattle.words.specs.Words.{wordWidth, wordBit}
+use Rattle.words.proofs.WordLaws.{value-small}
+use Rattle.network.proofs.Counting.{count-start, count-step, count-end}
 use Rattle.network.specs.Counts.{countIn}
 use borrow.Author.Needs.{needs}
 use native.Mathlib.Omega.{arith}
@@ -23,7 +24,7 @@ bit-at-requires : tie.Need-bit-at-requires Inv-loop μ-loop
 bit-at-requires c κs = search needs
 
 add-sum : tie.Need-add-sum Inv-loop μ-loop
-add-sum c = let e = value-most (wordBit (c .before .before .before .args .word) (c .before .before .loop .b)) in search needs
+add-sum c = let e = value-small (wordBit (c .before .before .before .args .word) (c .before .before .loop .b)) in search needs
 
 add-b : tie.Need-add-b Inv-loop μ-loop
 add-b c = search needs
@@ -35,7 +36,7 @@ loop-again : tie.Need-loop-again Inv-loop μ-loop
 loop-again c =
     let at-loop = c .before .before in
     let at-start = at-loop .before in
-    let e = value-most (wordBit (at-start .args .word) (at-loop .loop .b)) in let k = count-step (at-start .args .word) (at-loop .loop .b) (at-start .args .len) (search needs) in (search needs, search needs, search needs, omega (arith, at-loop .loop .inv .3, c .bit-at .ensures, k))
+    let e = value-small (wordBit (at-start .args .word) (at-loop .loop .b)) in let k = count-step (at-start .args .word) (at-loop .loop .b) (at-start .args .len) (search needs) in (search needs, search needs, search needs, omega (arith, at-loop .loop .inv .3, c .bit-at .ensures, k))
 
 returns : tie.Need-returns Inv-loop μ-loop
 returns c = let k = count-end (c .before .before .args .word) (c .before .loop .b) (c .before .before .args .len) (search needs) in (omega (arith, c .before .loop .inv .3, k), search needs)

@@ -1,8 +1,8 @@
 -- `network::reader::add_line` meets its contract: by the kind of line n, what is added agrees with what the model adds.
 -- Assumes nothing.
 use Rattle.network.proofs.ReadingLines.{line-is, entry-good}
-use Rattle.network.proofs.AddingTargets.{agrees-same}
-use Rattle.network.proofs.Drawing.{agrees-refused, drawn-formed, drawn-words}
+use Rattle.draft.proofs.AddingTargets.{agrees-same}
+use Rattle.draft.proofs.Drawing.{agrees-refused, drawn-formed, drawn-words}
 use Rattle.model.specs.NetworkText.{addLine}
 use mathlib.Core.Path.{ap}
 use borrow.Author.Needs.{needs}

@@ -1,7 +1,7 @@
 -- `network::reader::rejected` meets its contract.
 -- Assumes nothing.
 use Rattle.network.specs.Reads.{noNetwork}
-use Rattle.network.specs.declared.draft.Tally.{Tally}
+use Rattle.draft.specs.declared.store.Tally.{Tally}
 use mathlib.Core.Path.{refl, ap}
 use borrow.Author.Needs.{needs}
 use Rattle.network.proofs.reader.rejected.Statement.{statement}

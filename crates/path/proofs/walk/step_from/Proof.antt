@@ -4,7 +4,8 @@ use mathlib.Core.Path.{ap}
 use Prim.Native.Nat.{_<_, _≤_}
 use native.Mathlib.Omega.{arith}
 use borrow.Author.Needs.{needs}
-use Rattle.path.specs.Layout.{fieldAt, nodeAt, wordWidth, lookIn}
+use Rattle.words.specs.Words.{wordWidth}
+use Rattle.path.specs.Layout.{fieldAt, nodeAt, lookIn}
 use Rattle.path.specs.Answers.{addressed, stepOf}
 use Rattle.path.proofs.NodeLaws.{safe-mux}
 use Rattle.path.proofs.StepLaws.{step-segment, MuxStep, step-mux, step-unknown, step-input, step-beyond}

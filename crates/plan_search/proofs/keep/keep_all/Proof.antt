@@ -7,7 +7,7 @@ use lib.ListN.{length}
 use Rattle.settings.specs.Route.{Each}
 use Rattle.rows.specs.Rows.{RowsRight}
 use Rattle.layers.specs.Spreading.{Met, Starts}
-use Rattle.plan_search.proofs.KeptLayers.{KeptFrom, kept-none, kept-next, kept-all}
+use Rattle.plan_search.proofs.KeptLayers.{KeptDown, kept-none, kept-next, kept-all}
 use borrow.Author.Needs.{needs}
 use Rattle.plan_search.proofs.keep.keep_all.Statement.{statement}
 use Rattle.plan_search.proofs.keep.keep_all.Tie as tie
@@ -15,7 +15,7 @@ use Rattle.plan_search.proofs.keep.keep_all.Tie as tie
 abbrev Inv-loop : tie.InvT-loop
 Inv-loop nodes steering pb rows₀ start full table₀ d i₀ rows table i =
     (i ≤ d) × (length table ≡ length table₀) × RowsRight nodes steering pb rows
-    × Each nodes steering pb (λ net. Starts net start full → Met net (start * 16) table₀ d → KeptFrom net (start * 16) d i table₀ table)
+    × Each nodes steering pb (λ net. Starts net start full → Met net (start * 16) table₀ d → KeptDown net (start * 16) d i table₀ table)
 
 abbrev μ-loop : tie.MeasureT-loop
 μ-loop nodes steering pb rows₀ start full table₀ d i₀ rows table i = i

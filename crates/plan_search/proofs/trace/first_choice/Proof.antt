@@ -6,7 +6,7 @@ use mathlib.Core.Bool.{true}
 use borrow.Author.Count.{below-more}
 use native.Mathlib.Omega.{arith}
 use lib.ListN.{getD}
-use Rattle.path.specs.Layout.{wordBit}
+use Rattle.words.specs.Words.{wordBit}
 use Rattle.model.proofs.Lists.{true-false}
 use borrow.Author.Needs.{needs}
 use Rattle.plan_search.proofs.trace.first_choice.Statement.{statement}

@@ -4,7 +4,7 @@ use mathlib.Core.Path.{sym, ap, _∙_}
 use native.Mathlib.Omega.{arith}
 use borrow.Author.Needs.{needs}
 use lib.Seq.{length-take-le}
-use Rattle.planner.specs.Writing.{answerOf}
+use Rattle.plan_writer.specs.Writing.{answerOf}
 use Rattle.printed.proofs.PlanRoom.{count-fits}
 use Rattle.printed.proofs.plan.show.Statement.{statement}
 use Rattle.printed.proofs.plan.show.Tie as tie

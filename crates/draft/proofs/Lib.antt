@@ -1,0 +1,9 @@
+-- Laws of the draft and of the lines that are added to it.
+pub mod Nodes
+pub mod Drawing
+pub mod AddingNodes
+pub mod BadAddresses
+pub mod AddingOut
+pub mod AddingHolds
+pub mod AddingTargets
+pub mod TargetLaws

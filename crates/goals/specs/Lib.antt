@@ -1,0 +1,3 @@
+-- What the contracts of the goals cite: the table of layers, and its goals.
+pub mod Table
+pub mod Goals

@@ -1,0 +1,93 @@
+// Whether a slot has a goal: a valid setting with all targets reached.
+use path::layout::Nodes;
+use path::layout::Words;
+use rows::COUNT;
+use rows::Rows;
+use rows::know_row;
+use rows::number;
+use sets::has;
+use settings::setting_count;
+use steering::Problem;
+ghost use mathlib.Core.Path.{_≡_};
+ghost use mathlib.Core.Bool.{true};
+ghost use Prim.Native.Nat.{ℕ, _≤_, _<_};
+ghost use lib.ListN.{length};
+ghost use Rattle.search.specs.Moves.{allOf};
+ghost use Rattle.settings.specs.Route.{Plannable, Each};
+ghost use Rattle.rows.specs.Rows.{RowsRight};
+ghost use Rattle.goals.specs.Table.{SlotKnown, inSlot};
+ghost use Rattle.goals.specs.Goals.{SetsIn, goalWith, GoalIn};
+
+// Whether setting x with one of these sets is a goal: it is valid, and all targets are reached.
+fn is_goal<'a>(
+    nodes: &'a Nodes,
+    steering: &'a Words,
+    problem: Problem,
+    rows: &mut Rows,
+    full: usize,
+    x: usize,
+    sets: u16,
+) -> bool
+    requires { ⌜ Plannable (now nodes) (now steering) problem ⌝ }
+    requires { ⌜ RowsRight (now nodes) (now steering) problem (now rows) ⌝ }
+    requires { ⌜ (x < 729) × (full < 16) ⌝ }
+    ensures { λ _. ⌜ RowsRight (now (nodes .entry)) (now (steering .entry)) problem (now (rows .exit)) ⌝ }
+    ensures { λ r. ⌜ Each (now (nodes .entry)) (now (steering .entry)) problem (λ net. r ≡ goalWith net full x sets) ⌝ }
+{
+    if !has(sets, full) {
+        return false;
+    }
+    know_row(nodes, steering, problem, x, rows);
+    0 < number(rows, x, COUNT)
+}
+
+// Whether slot i has a goal.
+fn has_goal<'a>(
+    nodes: &'a Nodes,
+    steering: &'a Words,
+    problem: Problem,
+    rows: &mut Rows,
+    full: usize,
+    table: &[u16],
+    i: usize,
+) -> bool
+    requires { ⌜ Plannable (now nodes) (now steering) problem ⌝ }
+    requires { ⌜ RowsRight (now nodes) (now steering) problem (now rows) ⌝ }
+    requires { ⌜ (11664 ≤ length (now table)) × (full < 16) × (i < 16) ⌝ }
+    ensures { λ _. ⌜ RowsRight (now (nodes .entry)) (now (steering .entry)) problem (now (rows .exit)) ⌝ }
+    ensures { λ r. ⌜ Each (now (nodes .entry)) (now (steering .entry)) problem (λ net. full ≡ allOf (net .targets) → SlotKnown net (now (table .entry)) i → GoalIn net (now (table .entry)) i r) ⌝ }
+{
+    let end = setting_count(problem.width);
+    let mut x: usize = 0;
+    while x < end {
+        let sets = table[i * 729 + x];
+        if is_goal(nodes, steering, problem, rows, full, x, sets) {
+            return true;
+        }
+        x += 1;
+    }
+    false
+}
+
+// Whether slot i has a goal, where the sets of its states are all in came.
+pub fn meets_goal<'a>(
+    nodes: &'a Nodes,
+    steering: &'a Words,
+    problem: Problem,
+    rows: &mut Rows,
+    full: usize,
+    table: &[u16],
+    i: usize,
+    came: u16,
+) -> bool
+    requires { ⌜ Plannable (now nodes) (now steering) problem ⌝ }
+    requires { ⌜ RowsRight (now nodes) (now steering) problem (now rows) ⌝ }
+    requires { ⌜ (11664 ≤ length (now table)) × (full < 16) × (i < 16) ⌝ }
+    ensures { λ _. ⌜ RowsRight (now (nodes .entry)) (now (steering .entry)) problem (now (rows .exit)) ⌝ }
+    ensures { λ r. ⌜ Each (now (nodes .entry)) (now (steering .entry)) problem (λ net. full ≡ allOf (net .targets) → SlotKnown net (now (table .entry)) i → SetsIn (λ (s : ℕ). inSlot (now (table .entry)) i s ≡ true) came → GoalIn net (now (table .entry)) i r) ⌝ }
+{
+    if !has(came, full) {
+        return false;
+    }
+    has_goal(nodes, steering, problem, rows, full, table, i)
+}

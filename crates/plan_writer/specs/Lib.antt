@@ -1,0 +1,2 @@
+-- What the contracts of the plan's writer cite.
+pub mod Writing

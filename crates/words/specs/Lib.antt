@@ -1,0 +1,2 @@
+-- Words of bits and known marks, by numbers.
+pub mod Words
