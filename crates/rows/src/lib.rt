@@ -69,9 +69,10 @@ fn write_order(rows: &mut Rows, x: usize, order: &[usize; 6], m: usize)
     requires { ⌜ ((i : ℕ) → i < m → getD (now order) i 0 < 6) ⌝ }
     ensures { λ _. ⌜ OrderWritten (now (rows .entry)) x (now (order .entry)) m (now (rows .exit)) ⌝ }
 {
+    let at = x * ROW + ORDER;
     let mut i: usize = 0;
     while i < m {
-        rows[x * ROW + ORDER + i] = order[m - 1 - i] as u16;
+        rows[at + i] = order[m - 1 - i] as u16;
         i += 1;
     }
 }
@@ -91,11 +92,12 @@ fn write_row(
     requires { ⌜ ((i : ℕ) → i < m → getD (now order) i 0 < 6) ⌝ }
     ensures { λ _. ⌜ RowWritten (now (rows .entry)) x count gain base len (now (order .entry)) m (now (rows .exit)) ⌝ }
 {
-    rows[x * ROW + KNOWN] = 1;
-    rows[x * ROW + COUNT] = count;
-    rows[x * ROW + GAIN] = gain;
-    rows[x * ROW + BASE] = base;
-    rows[x * ROW + LENGTH] = len;
+    let at = x * ROW;
+    rows[at + KNOWN] = 1;
+    rows[at + COUNT] = count;
+    rows[at + GAIN] = gain;
+    rows[at + BASE] = base;
+    rows[at + LENGTH] = len;
     write_order(rows, x, order, m);
 }
 
@@ -144,9 +146,10 @@ fn write_stop(rows: &mut Rows, x: usize)
     requires { ⌜ (length (now rows) ≡ 8019) × (x < 729) ⌝ }
     ensures { λ _. ⌜ Unread (now (rows .entry)) x (now (rows .exit)) ⌝ }
 {
-    rows[x * ROW + KNOWN] = 1;
-    rows[x * ROW + COUNT] = 0;
-    rows[x * ROW + GAIN] = 0;
+    let at = x * ROW;
+    rows[at + KNOWN] = 1;
+    rows[at + COUNT] = 0;
+    rows[at + GAIN] = 0;
 }
 
 // The row of setting x is written, by a walk.

@@ -10,10 +10,16 @@ use Rattle.rows.proofs.write_order.Statement.{statement}
 use Rattle.rows.proofs.write_order.Tie as tie
 
 abbrev Inv-loop : tie.InvT-loop
-Inv-loop rows₀ x order m i₀ rows i = (i ≤ m) × Filling rows₀ x 5 (lastFirst order m) i rows
+Inv-loop rows₀ x order m at i₀ rows i = (i ≤ m) × Filling rows₀ x 5 (lastFirst order m) i rows
 
 abbrev μ-loop : tie.MeasureT-loop
-μ-loop rows₀ x order m i₀ rows i = m - i
+μ-loop rows₀ x order m at i₀ rows i = m - i
+
+mul-at : tie.Need-mul-at Inv-loop μ-loop
+mul-at c = search needs
+
+add-at : tie.Need-add-at Inv-loop μ-loop
+add-at c = search needs
 
 loop-holds : tie.Need-loop-holds Inv-loop μ-loop
 loop-holds c = (omega arith, filling-none _ _ _ _ (c .pre .0 .0))
@@ -35,17 +41,11 @@ cast-rows c =
     let s = c .before .before .before in
     omega (arith, s .pre .1 (s .args .m - 1 - c .before .before .loop .i) (omega arith))
 
-mul-rows-2 : tie.Need-mul-rows-2 Inv-loop μ-loop
-mul-rows-2 c = search needs
-
 add-rows : tie.Need-add-rows Inv-loop μ-loop
 add-rows c = search needs
 
-add-rows-2 : tie.Need-add-rows-2 Inv-loop μ-loop
-add-rows-2 c = search needs
-
-mul-rows-3 : tie.Need-mul-rows-3 Inv-loop μ-loop
-mul-rows-3 c = search needs
+mul-rows-2 : tie.Need-mul-rows-2 Inv-loop μ-loop
+mul-rows-2 c = search needs
 
 element-write-rows : tie.Need-element-write-rows Inv-loop μ-loop
 element-write-rows c = search needs
@@ -72,16 +72,16 @@ write-order-spec =
     (tie.spec
     Inv-loop
     μ-loop
+    mul-at
+    add-at
     loop-holds
     sub-rows
     sub-rows-2
     mul-rows
     element-copy-out-rows
     cast-rows
-    mul-rows-2
     add-rows
-    add-rows-2
-    mul-rows-3
+    mul-rows-2
     element-write-rows
     add-i
     loop-less

@@ -5,63 +5,52 @@ use Rattle.rows.proofs.RowWriting.{row-written}
 use borrow.Author.Needs.{needs}
 use Rattle.rows.proofs.write_row.Statement.{statement}
 use Rattle.rows.proofs.write_row.Tie as tie
+use Rattle.rows.proofs.write_order.Reads as write-order-reads
 
-mul-rows : tie.Need-mul-rows
-mul-rows c = search needs
+mul-at : tie.Need-mul-at
+mul-at c = search needs
 
 add-rows : tie.Need-add-rows
 add-rows c = search needs
 
-mul-rows-2 : tie.Need-mul-rows-2
-mul-rows-2 c = search needs
+mul-rows : tie.Need-mul-rows
+mul-rows c = search needs
 
 element-write-rows : tie.Need-element-write-rows
 element-write-rows c = search needs
 
-mul-rows-3 : tie.Need-mul-rows-3
-mul-rows-3 c = search needs
-
 add-rows-2 : tie.Need-add-rows-2
 add-rows-2 c = search needs
 
-mul-rows-4 : tie.Need-mul-rows-4
-mul-rows-4 c = search needs
+mul-rows-2 : tie.Need-mul-rows-2
+mul-rows-2 c = search needs
 
 element-write-rows-2 : tie.Need-element-write-rows-2
 element-write-rows-2 c = search needs
 
-mul-rows-5 : tie.Need-mul-rows-5
-mul-rows-5 c = search needs
-
 add-rows-3 : tie.Need-add-rows-3
 add-rows-3 c = search needs
 
-mul-rows-6 : tie.Need-mul-rows-6
-mul-rows-6 c = search needs
+mul-rows-3 : tie.Need-mul-rows-3
+mul-rows-3 c = search needs
 
 element-write-rows-3 : tie.Need-element-write-rows-3
 element-write-rows-3 c = search needs
 
-mul-rows-7 : tie.Need-mul-rows-7
-mul-rows-7 c = search needs
-
 add-rows-4 : tie.Need-add-rows-4
 add-rows-4 c = search needs
 
-mul-rows-8 : tie.Need-mul-rows-8
-mul-rows-8 c = search needs
+mul-rows-4 : tie.Need-mul-rows-4
+mul-rows-4 c = search needs
 
 element-write-rows-4 : tie.Need-element-write-rows-4
 element-write-rows-4 c = search needs
 
-mul-rows-9 : tie.Need-mul-rows-9
-mul-rows-9 c = search needs
-
 add-rows-5 : tie.Need-add-rows-5
 add-rows-5 c = search needs
 
-mul-rows-10 : tie.Need-mul-rows-10
-mul-rows-10 c = search needs
+mul-rows-5 : tie.Need-mul-rows-5
+mul-rows-5 c = search needs
 
 element-write-rows-5 : tie.Need-element-write-rows-5
 element-write-rows-5 c = search needs
@@ -80,25 +69,21 @@ pub write-row-spec : {M : Type 1} → statement M
 write-row-spec =
     tie.close
     (tie.spec
-    mul-rows
+    mul-at
     add-rows
-    mul-rows-2
+    mul-rows
     element-write-rows
-    mul-rows-3
     add-rows-2
-    mul-rows-4
+    mul-rows-2
     element-write-rows-2
-    mul-rows-5
     add-rows-3
-    mul-rows-6
+    mul-rows-3
     element-write-rows-3
-    mul-rows-7
     add-rows-4
-    mul-rows-8
+    mul-rows-4
     element-write-rows-4
-    mul-rows-9
     add-rows-5
-    mul-rows-10
+    mul-rows-5
     element-write-rows-5
     write-order-requires
     returns)

@@ -5,38 +5,32 @@ use borrow.Author.Needs.{needs}
 use Rattle.rows.proofs.write_stop.Statement.{statement}
 use Rattle.rows.proofs.write_stop.Tie as tie
 
-mul-rows : tie.Need-mul-rows
-mul-rows c = search needs
+mul-at : tie.Need-mul-at
+mul-at c = search needs
 
 add-rows : tie.Need-add-rows
 add-rows c = search needs
 
-mul-rows-2 : tie.Need-mul-rows-2
-mul-rows-2 c = search needs
+mul-rows : tie.Need-mul-rows
+mul-rows c = search needs
 
 element-write-rows : tie.Need-element-write-rows
 element-write-rows c = search needs
 
-mul-rows-3 : tie.Need-mul-rows-3
-mul-rows-3 c = search needs
-
 add-rows-2 : tie.Need-add-rows-2
 add-rows-2 c = search needs
 
-mul-rows-4 : tie.Need-mul-rows-4
-mul-rows-4 c = search needs
+mul-rows-2 : tie.Need-mul-rows-2
+mul-rows-2 c = search needs
 
 element-write-rows-2 : tie.Need-element-write-rows-2
 element-write-rows-2 c = search needs
 
-mul-rows-5 : tie.Need-mul-rows-5
-mul-rows-5 c = search needs
-
 add-rows-3 : tie.Need-add-rows-3
 add-rows-3 c = search needs
 
-mul-rows-6 : tie.Need-mul-rows-6
-mul-rows-6 c = search needs
+mul-rows-3 : tie.Need-mul-rows-3
+mul-rows-3 c = search needs
 
 element-write-rows-3 : tie.Need-element-write-rows-3
 element-write-rows-3 c = search needs
@@ -48,16 +42,14 @@ pub write-stop-spec : {M : Type 1} → statement M
 write-stop-spec =
     tie.close
     (tie.spec
-    mul-rows
+    mul-at
     add-rows
-    mul-rows-2
+    mul-rows
     element-write-rows
-    mul-rows-3
     add-rows-2
-    mul-rows-4
+    mul-rows-2
     element-write-rows-2
-    mul-rows-5
     add-rows-3
-    mul-rows-6
+    mul-rows-3
     element-write-rows-3
     returns)
