@@ -24,9 +24,9 @@ use Rattle.steering.specs.declared.Problem.{Problem}
 use Rattle.settings.specs.Route.{Prepared}
 use Rattle.rows.specs.Rows.{rowNumber, RowsRight, Lands, LandsIn, LandsOf}
 use Rattle.goals.specs.Table.{layersOf}
-use Rattle.plan_search.specs.Keeping.{Kept}
+use Rattle.keep.specs.Keeping.{Kept}
 use Rattle.plan_search.specs.Plans.{PlanTraced}
-use Rattle.plan_search.proofs.SetTests.{into-slot}
+use Rattle.keep.proofs.SetTests.{into-slot}
 use Rattle.rows.proofs.RowLaws.{land-small, gain-small, gain-read, lands-of}
 use Rattle.goals.proofs.SlotLaws.{layer-slot}
 

@@ -1,7 +1,4 @@
--- Laws of the search: what is kept of the layers, the way along it, the answer, and the search space cleared.
+-- Laws of the search: the way along what is kept, the answer, and the search space cleared.
 pub mod Zeros
-pub mod Filtering
-pub mod SetTests
-pub mod KeptLayers
 pub mod KeptWay
 pub mod Answer

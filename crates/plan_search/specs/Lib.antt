@@ -1,3 +1,2 @@
--- What the contracts of the search cite: what is kept of the layers, and the plan found.
-pub mod Keeping
+-- What the contracts of the search cite: the plan found.
 pub mod Plans

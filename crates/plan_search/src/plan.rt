@@ -1,6 +1,6 @@
 // The search: the fewest operations from the start to all targets, or nothing. The search space is cleared.
-use crate::keep::keep_all;
 use crate::trace::trace;
+use keep::keep_all;
 use layers::find_layer;
 use path::layout::Nodes;
 use path::layout::Words;

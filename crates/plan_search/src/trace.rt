@@ -18,7 +18,7 @@ ghost use Rattle.words.specs.Words.{wordBit};
 ghost use Rattle.search.specs.Search.{FirstAt};
 ghost use Rattle.settings.specs.Route.{Plannable, Each};
 ghost use Rattle.rows.specs.Rows.{RowsRight};
-ghost use Rattle.plan_search.specs.Keeping.{Kept};
+ghost use Rattle.keep.specs.Keeping.{Kept};
 ghost use Rattle.plan_search.specs.Plans.{PlanTraced};
 
 // The first of n choices that leads to a state of slot i with the targets got; n where none does.

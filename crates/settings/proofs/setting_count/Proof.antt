@@ -1,4 +1,4 @@
--- `route::setting_count` meets its contract.
+-- `settings::setting_count` meets its contract.
 -- Assumes nothing.
 use mathlib.Core.Path.{sym, ap}
 use Prim.Native.Nat.{ℕ, _^_}

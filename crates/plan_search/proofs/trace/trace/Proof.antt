@@ -8,7 +8,7 @@ use lib.Bits.{or-lt}
 use lib.ListN.{length, length-set}
 use Rattle.rows.specs.Rows.{RowsRight}
 use Rattle.settings.specs.Route.{Each}
-use Rattle.plan_search.specs.Keeping.{Kept}
+use Rattle.keep.specs.Keeping.{Kept}
 use Rattle.rows.proofs.RowLaws.{landing-of, lands-of, listed-small, gain-read-small}
 use Rattle.plan_search.proofs.KeptWay.{Tracing, tracing-start, tracing-within, tracing-step, tracing-end}
 use borrow.Author.Needs.{needs}

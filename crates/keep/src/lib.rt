@@ -22,7 +22,7 @@ ghost use Rattle.settings.specs.Route.{Plannable, Each};
 ghost use Rattle.rows.specs.Rows.{RowsRight, Landing, OfRow};
 ghost use Rattle.goals.specs.Table.{SlotKnown};
 ghost use Rattle.layers.specs.Spreading.{Met, Starts};
-ghost use Rattle.plan_search.specs.Keeping.{Filtered, FilteredSets, enters, leads, UnionOf, Useful};
+ghost use Rattle.keep.specs.Keeping.{Filtered, FilteredSets, enters, leads, UnionOf, Useful};
 
 // Of these sets, the one with which setting x is a goal.
 fn goal_sets<'a>(

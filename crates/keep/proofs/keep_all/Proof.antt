@@ -1,4 +1,4 @@
--- `plan_search::keep::keep_all` meets its contract. The invariant: layers i + 1 to d are kept.
+-- `keep::keep_all` meets its contract. The invariant: layers i + 1 to d are kept.
 -- Assumes nothing.
 use Prim.Native.Nat.{_*_, _≤_, _-_}
 use mathlib.Core.Path.{_≡_, refl, _∙_}
@@ -7,10 +7,10 @@ use lib.ListN.{length}
 use Rattle.settings.specs.Route.{Each}
 use Rattle.rows.specs.Rows.{RowsRight}
 use Rattle.layers.specs.Spreading.{Met, Starts}
-use Rattle.plan_search.proofs.KeptLayers.{KeptDown, kept-none, kept-next, kept-all}
+use Rattle.keep.proofs.KeptLayers.{KeptDown, kept-none, kept-next, kept-all}
 use borrow.Author.Needs.{needs}
-use Rattle.plan_search.proofs.keep.keep_all.Statement.{statement}
-use Rattle.plan_search.proofs.keep.keep_all.Tie as tie
+use Rattle.keep.proofs.keep_all.Statement.{statement}
+use Rattle.keep.proofs.keep_all.Tie as tie
 
 abbrev Inv-loop : tie.InvT-loop
 Inv-loop nodes steering pb rows₀ start full table₀ d i₀ rows table i =

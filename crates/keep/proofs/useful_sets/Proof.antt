@@ -1,11 +1,11 @@
--- `plan_search::keep::useful_sets` meets its contract.
+-- `keep::useful_sets` meets its contract.
 -- Assumes nothing.
 use mathlib.Core.Path.{refl}
-use Rattle.plan_search.proofs.SetTests.{useful-are}
+use Rattle.keep.proofs.SetTests.{useful-are}
 use Rattle.rows.proofs.RowLaws.{listed-small, land-small, gain-small, gain-read, gain-read-small}
 use borrow.Author.Needs.{needs}
-use Rattle.plan_search.proofs.keep.useful_sets.Statement.{statement}
-use Rattle.plan_search.proofs.keep.useful_sets.Tie as tie
+use Rattle.keep.proofs.useful_sets.Statement.{statement}
+use Rattle.keep.proofs.useful_sets.Tie as tie
 
 list-lands-requires : tie.Need-list-lands-requires
 list-lands-requires c κs =

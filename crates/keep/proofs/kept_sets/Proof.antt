@@ -1,10 +1,10 @@
--- `plan_search::keep::kept_sets` meets its contract.
+-- `keep::kept_sets` meets its contract.
 -- Assumes nothing.
 use Rattle.rows.proofs.RowLaws.{lands-of, landing-of}
-use Rattle.plan_search.proofs.SetTests.{leads-last, leads-before, filtered-by}
+use Rattle.keep.proofs.SetTests.{leads-last, leads-before, filtered-by}
 use borrow.Author.Needs.{needs}
-use Rattle.plan_search.proofs.keep.kept_sets.Statement.{statement}
-use Rattle.plan_search.proofs.keep.kept_sets.Tie as tie
+use Rattle.keep.proofs.kept_sets.Statement.{statement}
+use Rattle.keep.proofs.kept_sets.Tie as tie
 
 add-if1 : tie.Need-add-if1
 add-if1 c = search needs

@@ -1,13 +1,13 @@
--- `plan_search::keep::union_of` meets its contract. The invariant: all sets that the choices passed lead to are joined.
+-- `keep::union_of` meets its contract. The invariant: all sets that the choices passed lead to are joined.
 -- Assumes nothing.
 use Prim.Native.Nat.{_≤_, _<_, _-_}
 use mathlib.Core.Path.{_≡_}
 use native.Mathlib.Omega.{arith}
-use Rattle.plan_search.specs.Keeping.{UnionOf}
-use Rattle.plan_search.proofs.SetTests.{union-none, union-more}
+use Rattle.keep.specs.Keeping.{UnionOf}
+use Rattle.keep.proofs.SetTests.{union-none, union-more}
 use borrow.Author.Needs.{needs}
-use Rattle.plan_search.proofs.keep.union_of.Statement.{statement}
-use Rattle.plan_search.proofs.keep.union_of.Tie as tie
+use Rattle.keep.proofs.union_of.Statement.{statement}
+use Rattle.keep.proofs.union_of.Tie as tie
 
 abbrev Inv-loop : tie.InvT-loop
 Inv-loop table i lands n all₀ c₀ all c = (c ≤ n) × UnionOf table i lands c all

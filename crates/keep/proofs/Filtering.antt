@@ -14,7 +14,7 @@ use Rattle.model.proofs.Lists.{and-false-right}
 use Rattle.words.specs.Words.{wordBit}
 use Rattle.words.proofs.WordLaws.{zero-bit}
 use Rattle.goals.specs.Table.{inSlot, OutOfSlot, Others}
-use Rattle.plan_search.specs.Keeping.{Filtered, FilteredSets}
+use Rattle.keep.specs.Keeping.{Filtered, FilteredSets}
 use Rattle.goals.proofs.SlotLaws.{slot-at, slot-same}
 
 -- the slot is filtered up to setting x

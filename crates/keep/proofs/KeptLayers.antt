@@ -15,9 +15,9 @@ use Rattle.search.specs.Layers.{can}
 use Rattle.search.proofs.Forward.{someOf-same, can-zero, can-step, useful-next}
 use Rattle.goals.specs.Table.{inSlot, layersOf, SlotKnown}
 use Rattle.layers.specs.Spreading.{Met}
-use Rattle.plan_search.specs.Keeping.{Filtered, enters, leads, Useful}
+use Rattle.keep.specs.Keeping.{Filtered, enters, leads, Useful}
 use Rattle.goals.proofs.SlotLaws.{layer-slot, slot-same, slot-other}
-use Rattle.plan_search.proofs.SetTests.{leads-last, leads-before}
+use Rattle.keep.proofs.SetTests.{leads-last, leads-before}
 
 -- layers i + 1 to d are kept, and those before are as they were
 pub record KeptDown (net : Network) (start d i : ℕ) (old tab : List ℕ) : Type 0 where

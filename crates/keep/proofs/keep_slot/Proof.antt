@@ -1,4 +1,4 @@
--- `plan_search::keep::keep_slot` meets its contract. The invariant: slot i is filtered up to setting x.
+-- `keep::keep_slot` meets its contract. The invariant: slot i is filtered up to setting x.
 -- Assumes nothing.
 use Prim.Native.Nat.{_+_, _≤_, _-_}
 use mathlib.Core.Path.{_≡_, refl, sym, ap, _∙_, subst}
@@ -9,12 +9,12 @@ use Rattle.search.specs.Moves.{allOf}
 use Rattle.settings.specs.Route.{Each}
 use Rattle.settings.proofs.SettingWalk.{settings-count}
 use Rattle.rows.specs.Rows.{RowsRight}
-use Rattle.plan_search.specs.Keeping.{leads}
-use Rattle.plan_search.proofs.Filtering.{Filtering, filtering-none, filtering-more, filtering-skip, filtering-all}
-use Rattle.plan_search.proofs.SetTests.{filtered-by, leads-same}
+use Rattle.keep.specs.Keeping.{leads}
+use Rattle.keep.proofs.Filtering.{Filtering, filtering-none, filtering-more, filtering-skip, filtering-all}
+use Rattle.keep.proofs.SetTests.{filtered-by, leads-same}
 use borrow.Author.Needs.{needs}
-use Rattle.plan_search.proofs.keep.keep_slot.Statement.{statement}
-use Rattle.plan_search.proofs.keep.keep_slot.Tie as tie
+use Rattle.keep.proofs.keep_slot.Statement.{statement}
+use Rattle.keep.proofs.keep_slot.Tie as tie
 
 abbrev Inv-loop : tie.InvT-loop
 Inv-loop nodes steering pb rows₀ full table₀ d i end x₀ rows table x =

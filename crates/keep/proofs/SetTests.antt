@@ -21,7 +21,7 @@ use Rattle.search.specs.Layers.{someOf}
 use Rattle.search.proofs.Forward.{someOf-same, someOf-snoc}
 use Rattle.rows.specs.Rows.{LandsOf}
 use Rattle.goals.specs.Table.{inSlot, Others}
-use Rattle.plan_search.specs.Keeping.{FilteredSets, enters, leads, UnionOf}
+use Rattle.keep.specs.Keeping.{FilteredSets, enters, leads, UnionOf}
 use Rattle.goals.proofs.SlotLaws.{slot-at, slot-other}
 
 -- ---- the goal

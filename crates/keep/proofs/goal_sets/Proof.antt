@@ -1,11 +1,11 @@
--- `plan_search::keep::goal_sets` meets its contract.
+-- `keep::goal_sets` meets its contract.
 -- Assumes nothing.
 use mathlib.Core.Path.{sym, _∙_}
 use borrow.Author.Needs.{needs}
 use borrow.Author.Tests.{not-true, not-false}
-use Rattle.plan_search.proofs.SetTests.{goal-absent, goal-stopped, goal-alone}
-use Rattle.plan_search.proofs.keep.goal_sets.Statement.{statement}
-use Rattle.plan_search.proofs.keep.goal_sets.Tie as tie
+use Rattle.keep.proofs.SetTests.{goal-absent, goal-stopped, goal-alone}
+use Rattle.keep.proofs.goal_sets.Statement.{statement}
+use Rattle.keep.proofs.goal_sets.Tie as tie
 
 has-requires : tie.Need-has-requires
 has-requires c κs = search needs
