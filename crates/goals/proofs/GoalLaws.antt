@@ -5,16 +5,18 @@ use mathlib.Core.Bool.{Bool, true, false}
 use mathlib.Core.List.{List}
 use Prim.Native.Nat.{ℕ, _+_, _*_, _/_, _%_, _^_, _≤_, _<_}
 use native.Mathlib.Omega.{arith}
+use native.Mathlib.Decide.{decLt}
 use borrow.Author.Tests.{eq-eqb, eqb-true}
 use lib.Dec.{eqb, ltb}
 use lib.ListN.{length, getD}
 use Rattle.model.specs.Network.{Network, steeringBits}
 use Rattle.model.proofs.Lists.{true-false, and-both, and-parts}
 use Rattle.words.specs.Words.{wordBit}
+use Rattle.words.proofs.WordLaws.{zero-bit}
 use Rattle.search.specs.Moves.{allOf, count, sysOf}
-use Rattle.goals.specs.Table.{inSlot, SlotKnown}
+use Rattle.slots.specs.Table.{inSlot, SlotKnown, Skipped}
 use Rattle.goals.specs.Goals.{SetsIn, goalWith, GoalIn}
-use Rattle.goals.proofs.SlotLaws.{slot-at}
+use Rattle.slots.proofs.SlotLaws.{slot-at}
 
 -- ---- one setting
 
@@ -28,6 +30,14 @@ goal-counted net full x sets n e is = rw (e, is)
 
 pub slot-word : (tab : List ℕ) (i s : ℕ) → inSlot tab i s ≡ true → wordBit (getD tab (i * 729 + s / 16) 0) (s % 16) ≡ true
 slot-word tab i s e = and-parts (ltb s 11664) (wordBit (getD tab (i * 729 + s / 16) 0) (s % 16)) e .1
+
+-- settings without a state are no goals
+pub goal-skip : (net : Network) (full : ℕ) (tab : List ℕ) (i x end r : ℕ) → ((y : ℕ) → y < x → goalWith net full y (getD tab (i * 729 + y) 0) ≡ false)
+    → Skipped tab (i * 729) x end r → (y : ℕ) → y < r → goalWith net full y (getD tab (i * 729 + y) 0) ≡ false
+goal-skip net full tab i x end r off k y l = elim (decLt y x) [
+  | yes h ↦ off y h
+  | no h ↦ rw (k .empty y (omega arith) l, zero-bit full)
+]
 
 module _ (net : Network) (full : ℕ) (all : full ≡ allOf (net .targets)) (small : full < 16) (tab : List ℕ) (i : ℕ) where
   pub goal-there : (x : ℕ) → x < 729 → goalWith net full x (getD tab (i * 729 + x) 0) ≡ true → GoalIn net tab i true

@@ -1,3 +1,2 @@
--- Laws of the table of layers by slots, and of the goals of a slot.
-pub mod SlotLaws
+-- Laws of the goals of a slot.
 pub mod GoalLaws

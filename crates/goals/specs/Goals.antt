@@ -8,7 +8,7 @@ use lib.Dec.{ltb}
 use Rattle.model.specs.Network.{Network}
 use Rattle.words.specs.Words.{wordBit}
 use Rattle.search.specs.Moves.{count, sysOf}
-use Rattle.goals.specs.Table.{inSlot}
+use Rattle.slots.specs.Table.{inSlot}
 
 -- with each state of P its set of targets is in r
 abbrev pub SetsIn : (ℕ → Type 0) → ℕ → Type 0

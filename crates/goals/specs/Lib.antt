@@ -1,3 +1,2 @@
--- What the contracts of the goals cite: the table of layers, and its goals.
-pub mod Table
+-- What the contracts of the goals cite.
 pub mod Goals

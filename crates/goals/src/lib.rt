@@ -7,6 +7,7 @@ use rows::know_row;
 use rows::number;
 use sets::has;
 use settings::setting_count;
+use slots::next_setting;
 use steering::Problem;
 ghost use mathlib.Core.Path.{_≡_};
 ghost use mathlib.Core.Bool.{true};
@@ -15,7 +16,7 @@ ghost use lib.ListN.{length};
 ghost use Rattle.search.specs.Moves.{allOf};
 ghost use Rattle.settings.specs.Route.{Plannable, Each};
 ghost use Rattle.rows.specs.Rows.{RowsRight};
-ghost use Rattle.goals.specs.Table.{SlotKnown, inSlot};
+ghost use Rattle.slots.specs.Table.{SlotKnown, inSlot};
 ghost use Rattle.goals.specs.Goals.{SetsIn, goalWith, GoalIn};
 
 // Whether setting x with one of these sets is a goal: it is valid, and all targets are reached.
@@ -58,13 +59,14 @@ fn has_goal<'a>(
     ensures { λ r. ⌜ Each (now (nodes .entry)) (now (steering .entry)) problem (λ net. full ≡ allOf (net .targets) → SlotKnown net (now (table .entry)) i → GoalIn net (now (table .entry)) i r) ⌝ }
 {
     let end = setting_count(problem.width);
-    let mut x: usize = 0;
+    let at = i * 729;
+    let mut x = next_setting(table, at, 0, end);
     while x < end {
-        let sets = table[i * 729 + x];
+        let sets = table[at + x];
         if is_goal(nodes, steering, problem, rows, full, x, sets) {
             return true;
         }
-        x += 1;
+        x = next_setting(table, at, x + 1, end);
     }
     false
 }

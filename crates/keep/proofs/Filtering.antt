@@ -13,9 +13,9 @@ use lib.Seq.{getD-set-same, getD-set-other}
 use Rattle.model.proofs.Lists.{and-false-right}
 use Rattle.words.specs.Words.{wordBit}
 use Rattle.words.proofs.WordLaws.{zero-bit}
-use Rattle.goals.specs.Table.{inSlot, OutOfSlot, Others}
+use Rattle.slots.specs.Table.{inSlot, OutOfSlot, Others, Skipped}
 use Rattle.keep.specs.Keeping.{Filtered, FilteredSets}
-use Rattle.goals.proofs.SlotLaws.{slot-at, slot-same}
+use Rattle.slots.proofs.SlotLaws.{slot-at, slot-same}
 
 -- the slot is filtered up to setting x
 pub record Filtering (test : ℕ → Bool) (i x : ℕ) (tab tab′ : List ℕ) : Type 0 where
@@ -61,20 +61,20 @@ module _ (test : ℕ → Bool) (i x : ℕ) (tab tab′ : List ℕ) (h : Filterin
           apart (inl p) z = omega arith
           apart (inr p) z = omega arith
 
-  -- setting x has no state
-  pub filtering-skip : x < 729 → getD tab′ (i * 729 + x) 0 ≡ 0 → Filtering test i (x + 1) tab tab′
-  filtering-skip small zero = record { done = done; ahead = λ y a b. h .ahead y (omega arith) b; others = h .others }
+  -- the settings up to r have no state
+  pub filtering-skip : (end r : ℕ) → end ≤ 729 → Skipped tab′ (i * 729) x end r → Filtering test i r tab tab′
+  filtering-skip end r small k = record { done = done; ahead = λ y a b. h .ahead y (omega (arith, k .least)) b; others = h .others }
     where
-      none : (l : List ℕ) (s : ℕ) → s / 16 ≡ x → getD l (i * 729 + x) 0 ≡ 0 → inSlot l i s ≡ false
-      none l s e z = rw (e, z, zero-bit (s % 16)) (and-false-right (ltb s 11664))
+      none : (l : List ℕ) (s : ℕ) → getD l (i * 729 + s / 16) 0 ≡ 0 → inSlot l i s ≡ false
+      none l s z = rw (z, zero-bit (s % 16)) (and-false-right (ltb s 11664))
 
-      done : (s : ℕ) → s / 16 < x + 1 → inSlot tab′ i s ≡ (inSlot tab i s && test s)
+      done : (s : ℕ) → s / 16 < r → inSlot tab′ i s ≡ (inSlot tab i s && test s)
       done s lt =
           elim (decLt (s / 16) x) [
             | yes p ↦ h .done s p
             | no p ↦
-                let e : s / 16 ≡ x = omega arith in
-                none tab′ s e zero ∙ sym (ap (λ (t : Bool). t && test s) (none tab s e (sym (h .ahead x (omega arith) small) ∙ zero)))
+                let zero = k .empty (s / 16) (omega arith) lt in
+                none tab′ s zero ∙ sym (ap (λ (t : Bool). t && test s) (none tab s (sym (h .ahead (s / 16) (omega arith) (omega (arith, k .most))) ∙ zero)))
           ]
 
   -- the settings from x on are none of the slot's

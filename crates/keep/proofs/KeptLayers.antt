@@ -13,10 +13,10 @@ use Rattle.search.specs.Search.{Sys}
 use Rattle.search.specs.Moves.{sysOf}
 use Rattle.search.specs.Layers.{can}
 use Rattle.search.proofs.Forward.{someOf-same, can-zero, can-step, useful-next}
-use Rattle.goals.specs.Table.{inSlot, layersOf, SlotKnown}
+use Rattle.slots.specs.Table.{inSlot, layersOf, SlotKnown}
 use Rattle.layers.specs.Spreading.{Met}
 use Rattle.keep.specs.Keeping.{Filtered, enters, leads, Useful}
-use Rattle.goals.proofs.SlotLaws.{layer-slot, slot-same, slot-other}
+use Rattle.slots.proofs.SlotLaws.{layer-slot, slot-same, slot-other}
 use Rattle.keep.proofs.SetTests.{leads-last, leads-before}
 
 -- layers i + 1 to d are kept, and those before are as they were

@@ -20,9 +20,9 @@ use Rattle.search.specs.Moves.{allOf, count, gain, land, reached, goes, sysOf}
 use Rattle.search.specs.Layers.{someOf}
 use Rattle.search.proofs.Forward.{someOf-same, someOf-snoc}
 use Rattle.rows.specs.Rows.{LandsOf}
-use Rattle.goals.specs.Table.{inSlot, Others}
+use Rattle.slots.specs.Table.{inSlot, Others}
 use Rattle.keep.specs.Keeping.{FilteredSets, enters, leads, UnionOf}
-use Rattle.goals.proofs.SlotLaws.{slot-at, slot-other}
+use Rattle.slots.proofs.SlotLaws.{slot-at, slot-other}
 
 -- ---- the goal
 

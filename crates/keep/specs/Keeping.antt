@@ -10,7 +10,7 @@ use Rattle.model.specs.Network.{Network}
 use Rattle.words.specs.Words.{wordBit}
 use Rattle.search.specs.Moves.{sysOf}
 use Rattle.search.specs.Layers.{can, someOf}
-use Rattle.goals.specs.Table.{inSlot, layersOf, OnlySlot}
+use Rattle.slots.specs.Table.{inSlot, layersOf, OnlySlot}
 use Rattle.layers.specs.Spreading.{Met}
 
 -- slot i with the states that pass the test

@@ -13,6 +13,7 @@ use sets::has;
 use sets::kept;
 use sets::only;
 use settings::setting_count;
+use slots::next_setting;
 use steering::Problem;
 ghost use mathlib.Core.Path.{_≡_};
 ghost use Prim.Native.Nat.{ℕ, _+_, _*_, _≤_, _<_};
@@ -20,7 +21,7 @@ ghost use lib.ListN.{length, getD};
 ghost use Rattle.search.specs.Moves.{allOf, sysOf};
 ghost use Rattle.settings.specs.Route.{Plannable, Each};
 ghost use Rattle.rows.specs.Rows.{RowsRight, Landing, OfRow};
-ghost use Rattle.goals.specs.Table.{SlotKnown};
+ghost use Rattle.slots.specs.Table.{SlotKnown};
 ghost use Rattle.layers.specs.Spreading.{Met, Starts};
 ghost use Rattle.keep.specs.Keeping.{Filtered, FilteredSets, enters, leads, UnionOf, Useful};
 
@@ -122,24 +123,12 @@ fn keep_slot<'a>(
     ensures { λ _. ⌜ Each (now (nodes .entry)) (now (steering .entry)) problem (λ net. full ≡ allOf (net .targets) → SlotKnown net (now (table .entry)) i → Filtered (leads net (now (table .entry)) d i) i (now (table .entry)) (now (table .exit))) ⌝ }
 {
     let end = setting_count(problem.width);
-    let mut x: usize = 0;
+    let at = i * 729;
+    let mut x = next_setting(table, at, 0, end);
     while x < end {
-        let sets = table[i * 729 + x];
-        if sets != 0 {
-            table[i * 729 + x] = kept_sets(
-                nodes,
-                steering,
-                problem,
-                rows,
-                full,
-                table,
-                d,
-                i,
-                x,
-                sets,
-            );
-        }
-        x += 1;
+        let sets = table[at + x];
+        table[at + x] = kept_sets(nodes, steering, problem, rows, full, table, d, i, x, sets);
+        x = next_setting(table, at, x + 1, end);
     }
 }
 

@@ -22,11 +22,11 @@ use Rattle.search.specs.Moves.{allOf, count, gain, reached, sysOf}
 use Rattle.search.specs.Layers.{Earlier, Layers}
 use Rattle.search.proofs.Forward.{earlier-same, stepped-same, layers-same, layers-start, layers-next, layers-empty, nothing-up-to}
 use Rattle.search.proofs.MoveLaws.{gain-within, land-within}
-use Rattle.goals.specs.Table.{inSlot, inSeen, layersOf, Others, Known, SlotKnown}
+use Rattle.slots.specs.Table.{inSlot, inSeen, layersOf, Others, Known, SlotKnown}
 use Rattle.goals.specs.Goals.{SetsIn, GoalIn}
 use Rattle.layers.specs.Spreading.{Spread, Next, Met, Starts}
 use Rattle.sets.proofs.SetLaws.{together-small}
-use Rattle.goals.proofs.SlotLaws.{slot-beyond, slot-other}
+use Rattle.slots.proofs.SlotLaws.{slot-beyond, slot-other}
 
 -- the search has come to layer i: no layer so far has a goal, and the slots from i on are empty
 pub record Forward (net : Network) (start i : ℕ) (tab seen : List ℕ) : Type 0 where

@@ -17,11 +17,11 @@ use Rattle.words.specs.Words.{wordBit}
 use Rattle.words.proofs.WordLaws.{zero-bit}
 use Rattle.words.proofs.WordTests.{wordBit-or, wordBit-pow}
 use Rattle.search.specs.Moves.{count, reached, goes}
-use Rattle.goals.specs.Table.{layersOf, Known}
+use Rattle.slots.specs.Table.{layersOf, Known, Skipped}
 use Rattle.goals.specs.Goals.{SetsIn}
 use Rattle.layers.specs.Spreading.{Spread, Leaves, Next}
 use Rattle.layers.proofs.SpreadLaws.{spread-none, spread-more, spread-as}
-use Rattle.goals.proofs.SlotLaws.{layer-slot, slot-at}
+use Rattle.slots.proofs.SlotLaws.{layer-slot, slot-at}
 use Rattle.goals.proofs.GoalLaws.{slot-word}
 
 -- what leaves slot j from a setting below x
@@ -54,11 +54,6 @@ module _ (net : Network) (tab : List ℕ) (j i : ℕ) where
         (λ s a. record { setting = x; below = omega arith; leaves = subst (λ (w : ℕ). Leaves net x w s) e a })
         p q
 
-    pub left-skip : getD tab (j * 729 + x) 0 ≡ 0 → Spread (LeftBelow net tab j (x + 1)) i tab seen tab′ seen′
-    left-skip e =
-        let sets = getD tab (j * 729 + x) 0 in
-        left-more sets tab′ seen′ refl (spread-none (Leaves net x sets) i tab′ seen′ (λ s. nothing-leaves net x sets s e) (p .seen-size))
-
 -- their sets, setting by setting
 module _ (net : Network) (tab : List ℕ) (j : ℕ) where
   pub sets-none : (all : ℕ) → SetsIn (LeftBelow net tab j 0) all
@@ -72,12 +67,24 @@ module _ (net : Network) (tab : List ℕ) (j : ℕ) where
         by (inl b) = or-left (wordBit all (s % 16)) (wordBit got (s % 16)) (p s b)
         by (inr b) = or-right (wordBit all (s % 16)) (wordBit got (s % 16)) (q s b)
 
-    pub sets-skip : getD tab (j * 729 + x) 0 ≡ 0 → SetsIn (LeftBelow net tab j (x + 1)) all
-    sets-skip e s a = by (below-or-at net tab j x (getD tab (j * 729 + x) 0) refl s a)
-      where
-        by : LeftBelow net tab j x s ⊎ Leaves net x (getD tab (j * 729 + x) 0) s → wordBit all (s % 16) ≡ true
-        by (inl b) = p s b
-        by (inr b) = absurd (nothing-leaves net x (getD tab (j * 729 + x) 0) s e b)
+-- settings without a state: nothing leaves them
+module _ (net : Network) (tab : List ℕ) (j i x : ℕ) (seen tab′ seen′ : List ℕ) (p : Spread (LeftBelow net tab j x) i tab seen tab′ seen′) where
+  module _ (end r : ℕ) (before : j < i) (small : end ≤ 729) (k : Skipped tab′ (j * 729) x end r) where
+    below-gap : (s : ℕ) → LeftBelow net tab j r s → LeftBelow net tab j x s
+    below-gap s a = elim (decLt (a .setting) x) [
+      | yes h ↦ record { setting = a .setting; below = h; leaves = a .leaves }
+      | no h ↦
+          let same = p .only .others (j * 729 + a .setting) (inl (omega (arith, a .below, k .most))) in
+          absurd (nothing-leaves net (a .setting) (getD tab (j * 729 + a .setting) 0) s (sym same ∙ k .empty (a .setting) (omega arith) (a .below)) (a .leaves))
+    ]
+
+    pub left-skip : Spread (LeftBelow net tab j r) i tab seen tab′ seen′
+    left-skip =
+        spread-as (LeftBelow net tab j x) (LeftBelow net tab j r) i tab seen tab′ seen′
+        (λ s a. record { setting = a .setting; below = omega (arith, a .below, k .least); leaves = a .leaves }) below-gap p
+
+    pub sets-skip : (all : ℕ) → SetsIn (LeftBelow net tab j x) all → SetsIn (LeftBelow net tab j r) all
+    sets-skip all q s a = q s (below-gap s a)
 
 -- what leaves layer i leaves a setting of the network
 next-left : (net : Network) (start : ℕ) (tab : List ℕ) (i x : ℕ) → 1 ≤ i → 3 ^ length (steeringBits (net .nodes)) ≤ x → Known net start tab i → (s : ℕ) → Next net start tab i s → LeftBelow net tab (i - 1) x s

@@ -18,7 +18,7 @@ use Rattle.words.specs.Words.{wordBit}
 use Rattle.words.proofs.WordTests.{wordBit-or}
 use Rattle.search.specs.Moves.{count, gain, land}
 use Rattle.sets.specs.Sets.{Joined}
-use Rattle.goals.specs.Table.{inSlot, inSeen, OutOfSlot}
+use Rattle.slots.specs.Table.{inSlot, inSeen, OutOfSlot}
 use Rattle.goals.specs.Goals.{SetsIn}
 use Rattle.layers.specs.Spreading.{Spread, AtSetting, Arrives, Leaves}
 use Rattle.sets.proofs.SetLaws.{or-cases, together-small}
@@ -67,10 +67,6 @@ spread-more P Q R i tab seen tab′ seen′ tab″ seen″ parts first second p 
         by : (inSeen seen s ≡ true) ⊎ (inSlot tab′ i s ≡ true) → (inSeen seen s ≡ true) ⊎ (inSlot tab″ i s ≡ true)
         by (inl f) = inl f
         by (inr f) = inr (q .slot-kept s f)
-
--- the same lists, told otherwise
-pub spread-at : (P : ℕ → Type 0) (i : ℕ) (tab seen tab′ seen′ new newSeen : List ℕ) → new ≡ tab′ → newSeen ≡ seen′ → Spread P i tab seen tab′ seen′ → Spread P i tab seen new newSeen
-spread-at P i tab seen tab′ seen′ new newSeen a b p = rw (a, b) p
 
 -- the same states, told otherwise
 pub spread-as : (P R : ℕ → Type 0) (i : ℕ) (tab seen tab′ seen′ : List ℕ) → ((s : ℕ) → P s → R s) → ((s : ℕ) → R s → P s) → Spread P i tab seen tab′ seen′ → Spread R i tab seen tab′ seen′

@@ -12,7 +12,7 @@ use Rattle.words.specs.Words.{wordBit}
 use Rattle.search.specs.Search.{planUpTo}
 use Rattle.search.specs.Moves.{allOf, count, reached, goes, sysOf}
 use Rattle.search.specs.Layers.{Layers, Stepped}
-use Rattle.goals.specs.Table.{inSlot, inSeen, layersOf, OnlySlot, Known}
+use Rattle.slots.specs.Table.{inSlot, inSeen, layersOf, OnlySlot, Known}
 
 -- slot i and the states met, with each state of P besides that had not been met
 pub record Spread (P : ℕ → Type 0) (i : ℕ) (tab seen tab′ seen′ : List ℕ) : Type 0 where

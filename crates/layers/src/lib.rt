@@ -12,13 +12,14 @@ use rows::list_lands;
 use rows::number;
 use sets::joined;
 use settings::setting_count;
+use slots::next_setting;
 use steering::Problem;
 ghost use mathlib.Core.Path.{_≡_};
 ghost use Prim.Native.Nat.{ℕ, _*_, _≤_, _<_};
 ghost use lib.ListN.{length, getD};
 ghost use Rattle.settings.specs.Route.{Plannable, Each};
 ghost use Rattle.rows.specs.Rows.{RowsRight, Landing, OfRow};
-ghost use Rattle.goals.specs.Table.{OnlySlot, Known};
+ghost use Rattle.slots.specs.Table.{OnlySlot, Known};
 ghost use Rattle.goals.specs.Goals.{SetsIn};
 ghost use Rattle.layers.specs.Spreading.{Spread, AtSetting, Arrives, Leaves, Next, Met, Starts};
 
@@ -99,16 +100,15 @@ fn spread_layer<'a>(
         return spread_setting(rows, start, 1, table, seen, i);
     }
     let end = setting_count(problem.width);
+    let at = (i - 1) * 729;
     let mut all: u16 = 0;
-    let mut x: usize = 0;
+    let mut x = next_setting(table, at, 0, end);
     while x < end {
-        let sets = table[(i - 1) * 729 + x];
-        if sets != 0 {
-            know_row(nodes, steering, problem, x, rows);
-            let got = spread_setting(rows, x, sets, table, seen, i);
-            all = all | got;
-        }
-        x += 1;
+        let sets = table[at + x];
+        know_row(nodes, steering, problem, x, rows);
+        let got = spread_setting(rows, x, sets, table, seen, i);
+        all = all | got;
+        x = next_setting(table, at, x + 1, end);
     }
     all
 }

@@ -9,7 +9,7 @@ use Rattle.search.specs.Search.{planUpTo}
 use Rattle.search.specs.Moves.{sysOf}
 use Rattle.search.proofs.Least.{plan-length}
 use Rattle.search.proofs.Forward.{least-is}
-use Rattle.goals.specs.Table.{layersOf}
+use Rattle.slots.specs.Table.{layersOf}
 use Rattle.layers.specs.Spreading.{Met}
 use Rattle.plan_search.specs.Plans.{PlanTraced, PlanFound}
 use Rattle.plan_search.specs.declared.plan.Found.the-variants.{Operations, Nothing}

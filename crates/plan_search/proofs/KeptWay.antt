@@ -23,12 +23,12 @@ use Rattle.search.proofs.Forward.{Traced, trace-step, least-plan, useful-next}
 use Rattle.steering.specs.declared.Problem.{Problem}
 use Rattle.settings.specs.Route.{Prepared}
 use Rattle.rows.specs.Rows.{rowNumber, RowsRight, Lands, LandsIn, LandsOf}
-use Rattle.goals.specs.Table.{layersOf}
+use Rattle.slots.specs.Table.{layersOf}
 use Rattle.keep.specs.Keeping.{Kept}
 use Rattle.plan_search.specs.Plans.{PlanTraced}
 use Rattle.keep.proofs.SetTests.{into-slot}
 use Rattle.rows.proofs.RowLaws.{land-small, gain-small, gain-read, lands-of}
-use Rattle.goals.proofs.SlotLaws.{layer-slot}
+use Rattle.slots.proofs.SlotLaws.{layer-slot}
 
 -- the way has come to setting x with the targets m, and i choices are written
 pub record Tracing (net : Network) (start d : ℕ) (tab : List ℕ) (K : Kept net start d tab) (old out : List ℕ) (x m i : ℕ) : Type 0 where

@@ -1,9 +1,9 @@
 -- `layers::spread_layer` meets its contract. The loop's invariant: all that leaves the settings below x has been spread, and its
 -- sets are in all.
 -- Assumes nothing.
-use mathlib.Core.Path.{_≡_, sym, _∙_, subst}
-use mathlib.Core.Logic.{inl, ⊎-elim}
-use Prim.Native.Nat.{ℕ, _+_, _*_, _-_, _≤_, _<_}
+use mathlib.Core.Path.{_≡_}
+use mathlib.Core.Logic.{inl}
+use Prim.Native.Nat.{_+_, _*_, _-_, _≤_, _<_}
 use native.Mathlib.Omega.{arith}
 use lib.ListN.{getD}
 use Rattle.model.specs.Network.{Network}
@@ -13,19 +13,18 @@ use Rattle.goals.specs.Goals.{SetsIn}
 use Rattle.layers.specs.Spreading.{Spread}
 use Rattle.settings.proofs.SettingWalk.{settings-count}
 use Rattle.rows.proofs.RowLaws.{lands-of, landing-of}
-use Rattle.layers.proofs.SpreadLaws.{spread-at}
 use Rattle.layers.proofs.Leaving.{LeftBelow, left-none, left-more, left-skip, left-all, left-start, sets-none, sets-more, sets-skip, sets-all, sets-start}
 use Rattle.layers.proofs.spread_layer.Statement.{statement}
 use Rattle.layers.proofs.spread_layer.Tie as tie
 
 abbrev Inv-loop : tie.InvT-loop
-Inv-loop nodes steering pb rows₀ start table₀ seen₀ i end all₀ x₀ rows table seen all x =
+Inv-loop nodes steering pb rows₀ start table₀ seen₀ i end at all₀ x₀ rows table seen all x =
     (x ≤ end) × RowsRight nodes steering pb rows
     × Each nodes steering pb (λ net. Spread (LeftBelow net table₀ (i - 1) x) i table₀ seen₀ table seen)
     × Each nodes steering pb (λ net. SetsIn (LeftBelow net table₀ (i - 1) x) all)
 
 abbrev μ-loop : tie.MeasureT-loop
-μ-loop nodes steering pb rows₀ start table₀ seen₀ i end all₀ x₀ rows table seen all x = end - x
+μ-loop nodes steering pb rows₀ start table₀ seen₀ i end at all₀ x₀ rows table seen all x = end - x
 
 know-row-requires : tie.Need-know-row-requires Inv-loop μ-loop
 know-row-requires c κs =
@@ -65,88 +64,111 @@ returns c =
 setting-count-requires : tie.Need-setting-count-requires Inv-loop μ-loop
 setting-count-requires c κs = c .before .before .pre .0 .1 .few
 
+sub-at : tie.Need-sub-at Inv-loop μ-loop
+sub-at c = omega arith
+
+mul-at : tie.Need-mul-at Inv-loop μ-loop
+mul-at c = omega (arith, c .before .before .before .pre)
+
+next-setting-requires : tie.Need-next-setting-requires Inv-loop μ-loop
+next-setting-requires c κs =
+    let s = c .before .before .before .before in
+    let n = c .before .setting-count in
+    (omega (arith, s .pre, n .ensures .1), omega (arith, s .pre, n .ensures .1), omega arith)
+
 loop-holds : tie.Need-loop-holds Inv-loop μ-loop
 loop-holds c =
-    let s = c .before .before .before in
-    (omega arith, s .pre .1 .0, λ net p. left-none net (s .args .table .now) (s .args .i - 1) (s .args .i) (s .args .seen .now) (s .pre .1 .1 .1), λ net p. sets-none net (s .args .table .now) (s .args .i - 1) 0)
-
-sub-sets : tie.Need-sub-sets Inv-loop μ-loop
-sub-sets c = omega arith
-
-mul-sets : tie.Need-mul-sets Inv-loop μ-loop
-mul-sets c = omega (arith, c .before .before .before .before .before .pre)
+    let s = c .before .before .before .before .before in
+    let n = c .before .before .setting-count in
+    let tab = s .args .table .now in
+    let seen = s .args .seen .now in
+    let i = s .args .i in
+    let none : (net : Network) → Spread (LeftBelow net tab (i - 1) 0) i tab seen tab seen = λ net. left-none net tab (i - 1) i seen (s .pre .1 .1 .1) in (
+      c .next-setting .ensures .most,
+      s .pre .1 .0,
+      λ net p. left-skip net tab (i - 1) i 0 seen tab seen (none net) (n .result) (c .next-setting .result) (omega arith) (n .ensures .1) (c .next-setting .ensures),
+      λ net p. sets-skip net tab (i - 1) i 0 seen tab seen (none net) (n .result) (c .next-setting .result) (omega arith) (n .ensures .1) (c .next-setting .ensures) 0 (sets-none net tab (i - 1) 0),
+    )
 
 add-sets : tie.Need-add-sets Inv-loop μ-loop
-add-sets c = omega (arith, c .before .before .before .before .before .pre)
+add-sets c = omega (arith, c .before .before .before .before .before .before .before .pre, c .before .before .before .before .setting-count .ensures .1)
 
-mul-sets-2 : tie.Need-mul-sets-2 Inv-loop μ-loop
-mul-sets-2 c = omega (arith, c .before .before .before .before .before .pre)
+mul-sets : tie.Need-mul-sets Inv-loop μ-loop
+mul-sets c = omega (arith, c .before .before .before .before .before .before .before .pre, c .before .before .before .before .setting-count .ensures .1)
 
 slice-read-sets : tie.Need-slice-read-sets Inv-loop μ-loop
 slice-read-sets c =
-    let s = c .before .before .before .before .before .before in
-    omega (arith, s .pre, c .before .before .loop .inv .2 (s .pre .0 .0) (s .pre .0 .1) .only .size)
+    let s = c .before .before .before .before .before .before .before .before in
+    omega (arith, s .pre, c .before .before .loop .inv .2 (s .pre .0 .0) (s .pre .0 .1) .only .size, c .before .before .before .before .before .setting-count .ensures .1)
 
 know-row-requires-2 : tie.Need-know-row-requires-2 Inv-loop μ-loop
 know-row-requires-2 c κs =
-    let s = c .before .before .before .before .before .before .before .before in
-    (s .pre .0, (omega (arith, c .before .before .before .before .before .setting-count .ensures .1), c .before .before .before .before .loop .inv .1))
+    let s = c .before .before .before .before .before .before .before .before .before in
+    (s .pre .0, (omega (arith, c .before .before .before .before .before .before .setting-count .ensures .1), c .before .before .before .loop .inv .1))
 
 spread-setting-requires-2 : tie.Need-spread-setting-requires-2 Inv-loop μ-loop
 spread-setting-requires-2 c κs =
-    let s = c .before .before .before .before .before .before .before .before .before .before .before .before in
-    let l = c .before .before .before .before .before .before .before .before .loop in
+    let s = c .before .before .before .before .before .before .before .before .before .before .before .before .before in
+    let l = c .before .before .before .before .before .before .before .loop in
     let q = l .inv .2 (s .pre .0 .0) (s .pre .0 .1) in
-    let small : l .x < 729 = omega (arith, c .before .before .before .before .before .before .before .before .before .setting-count .ensures .1) in
+    let small : l .x < 729 = omega (arith, c .before .before .before .before .before .before .before .before .before .before .setting-count .ensures .1) in
     let w = c .before .before .before .know-row2 .ensures in
     ((omega (arith, q .only .size, s .pre .1 .1 .0), q .seen-size, small, s .pre .1 .1 .3), landing-of (s .pre .0) (w .0) (l .x) small (w .1))
 
-add-x : tie.Need-add-x Inv-loop μ-loop
-add-x c = omega arith
+add-next-setting : tie.Need-add-next-setting Inv-loop μ-loop
+add-next-setting c = omega (arith, c .before .before .before .before .before .before .before .before .before .before .before .before .before .before .setting-count .ensures .1)
+
+next-setting-requires-2 : tie.Need-next-setting-requires-2 Inv-loop μ-loop
+next-setting-requires-2 c κs =
+    let s = c .before .before .before .before .before .before .before .before .before .before .before .before .before .before .before .before .before in
+    let l = c .before .before .before .before .before .before .before .before .before .before .before .loop in
+    let n = c .before .before .before .before .before .before .before .before .before .before .before .before .before .before .setting-count in
+    let w = c .before .before .before .before .before .before .before .know-row2 .ensures in
+    let test = c .before .before .before .before .before .before .before .before .before .before .loop-test .taken in
+    let small : l .x < 729 = omega (arith, n .ensures .1, test) in
+    let kept = c .before .before .before .spread-setting2 .ensures .0 (s .pre .0 .0) (lands-of (s .pre .0 .1) (w .0) (l .x) small (w .1)) .only .size in
+    let before = l .inv .2 (s .pre .0 .0) (s .pre .0 .1) .only .size in
+    (omega (arith, s .pre, n .ensures .1, kept, before), omega (arith, s .pre, n .ensures .1), omega (arith, test))
 
 loop-less : tie.Need-loop-less Inv-loop μ-loop
-loop-less c = omega arith
+loop-less c = omega (arith, c .next-setting2 .ensures .least)
 
 loop-again : tie.Need-loop-again Inv-loop μ-loop
 loop-again c =
-    let s = c .before .before .before .before .before .before .before in
-    let l = c .before .before .before .loop in
+    let s = c .before .before .before .before .before .before .before .before .before .before .before .before .before .before .before .before .before .before in
+    let l = c .before .before .before .before .before .before .before .before .before .before .before .before .loop in
+    let n = c .before .before .before .before .before .before .before .before .before .before .before .before .before .before .before .setting-count in
+    let w = c .before .before .before .before .before .before .before .before .know-row2 .ensures in
+    let m = c .before .before .before .before .spread-setting2 in
+    let k = c .next-setting2 in
+    let tab = s .args .table .now in
+    let seen = s .args .seen .now in
     let j = s .args .i - 1 in
-    let Below : Network → ℕ → Type 0 = λ net. LeftBelow net (s .args .table .now) j (l .x + 1) in
-    let same : (net : Network) → Prepared net (s .args .nodes .now) (s .args .steering .now) (s .args .problem) → getD (l .table) (j * 729 + l .x) 0 ≡ getD (s .args .table .now) (j * 729 + l .x) 0 =
-    λ net p. l .inv .2 net p .only .others (j * 729 + l .x) (inl (omega (arith, c .before .before .before .before .setting-count .ensures .1))) in
-    let small : l .x < 729 = omega (arith, c .before .before .before .before .setting-count .ensures .1) in
-    ⊎-elim
-    (λ w. (
-      omega arith,
-      rw (w .9) (w .2 .ensures .0),
+    let sets = getD (l .table) (j * 729 + l .x) 0 in
+    let later = c .before .before .before .before .before .before .before .before .before .before .before .before .before .before .before .before .if1 .left in
+    let small : l .x < 729 = omega (arith, n .ensures .1, c .before .before .before .before .before .before .before .before .before .before .before .loop-test .taken) in
+    let At : Network → Type 0 = λ net. Prepared net (s .args .nodes .now) (s .args .steering .now) (s .args .problem) in
+    let same : (net : Network) → At net → sets ≡ getD tab (j * 729 + l .x) 0 = λ net p. l .inv .2 net p .only .others (j * 729 + l .x) (inl (omega (arith, small, later))) in
+    let lands : (net : Network) → At net → Lands net _ (l .x) = λ net p. lands-of p (w .0) (l .x) small (w .1) in
+    let more : (net : Network) → At net → Spread (LeftBelow net tab j (l .x + 1)) (s .args .i) tab seen (m .last .1 .1 .1 .0) (m .last .1 .1 .1 .1 .0) =
+    λ net p. left-more net tab j (s .args .i) (l .x) seen (l .table) (l .seen) (l .inv .2 net p) sets (m .last .1 .1 .1 .0) (m .last .1 .1 .1 .1 .0) (same net p) (m .ensures .0 net (lands net p)) in (
+      k .ensures .most,
+      w .0,
+      λ net p. left-skip net tab j (s .args .i) (l .x + 1) seen _ _ (more net p) (n .result) (k .result) (omega (arith, later)) (n .ensures .1) (k .ensures),
       λ net p.
-          spread-at (Below net) (s .args .i) (s .args .table .now) (s .args .seen .now) (w .6 .last .1 .1 .1 .0) (w .6 .last .1 .1 .1 .1 .0) (c .if2 .table) (c .if2 .seen) (w .10) (w .11)
-          (left-more net (s .args .table .now) j (s .args .i) (l .x) (s .args .seen .now) (l .table) (l .seen) (l .inv .2 net p)
-          (getD (l .table) (j * 729 + l .x) 0) (w .6 .last .1 .1 .1 .0) (w .6 .last .1 .1 .1 .1 .0) (same net p) (w .6 .ensures .0 net (lands-of p (w .2 .ensures .0) (l .x) small (w .2 .ensures .1)))),
-      λ net p.
-          subst (SetsIn (Below net)) (sym (w .12))
-          (sets-more net (s .args .table .now) j (l .x) (l .all) (l .inv .3 net p) (getD (l .table) (j * 729 + l .x) 0) (w .6 .result) (same net p) (w .6 .ensures .1 net (lands-of p (w .2 .ensures .0) (l .x) small (w .2 .ensures .1)))),
-    ))
-    (λ w. (
-      omega arith,
-      rw (w .1) (l .inv .1),
-      λ net p.
-          spread-at (Below net) (s .args .i) (s .args .table .now) (s .args .seen .now) (l .table) (l .seen) (c .if2 .table) (c .if2 .seen) (w .2) (w .3)
-          (left-skip net (s .args .table .now) j (s .args .i) (l .x) (s .args .seen .now) (l .table) (l .seen) (l .inv .2 net p) (sym (same net p) ∙ w .0 .left)),
-      λ net p. subst (SetsIn (Below net)) (sym (w .4)) (sets-skip net (s .args .table .now) j (l .x) (l .all) (l .inv .3 net p) (sym (same net p) ∙ w .0 .left)),
-    ))
-    (c .if2 .came)
+          sets-skip net tab j (s .args .i) (l .x + 1) seen _ _ (more net p) (n .result) (k .result) (omega (arith, later)) (n .ensures .1) (k .ensures) _
+          (sets-more net tab j (l .x) (l .all) (l .inv .3 net p) sets (m .result) (same net p) (m .ensures .1 net (lands net p))),
+    )
 
 same-length-2 : tie.Need-same-length-2 Inv-loop μ-loop
 same-length-2 c =
-    let s = c .before .before .before .before .before in
+    let s = c .before .before .before .before .before .before .before in
     c .before .loop .inv .2 (s .pre .0 .0) (s .pre .0 .1) .only .size
 
 returns-2 : tie.Need-returns-2 Inv-loop μ-loop
 returns-2 c =
-    let s = c .before .before .before .before .before in
-    let n = c .before .before .setting-count in
+    let s = c .before .before .before .before .before .before .before in
+    let n = c .before .before .before .before .setting-count in
     let l = c .before .loop in (
       l .inv .1,
       (
@@ -173,15 +195,17 @@ spread-layer-spec =
     same-length
     returns
     setting-count-requires
+    sub-at
+    mul-at
+    next-setting-requires
     loop-holds
-    sub-sets
-    mul-sets
     add-sets
-    mul-sets-2
+    mul-sets
     slice-read-sets
     know-row-requires-2
     spread-setting-requires-2
-    add-x
+    add-next-setting
+    next-setting-requires-2
     loop-less
     loop-again
     same-length-2

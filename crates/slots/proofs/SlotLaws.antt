@@ -10,7 +10,7 @@ use native.Mathlib.Decide.{decLt}
 use lib.ListN.{getD}
 use borrow.Author.Tests.{lt-ltb, le-ltb}
 use Rattle.words.specs.Words.{wordBit}
-use Rattle.goals.specs.Table.{inSlot, layersOf, OutOfSlot, Others}
+use Rattle.slots.specs.Table.{inSlot, layersOf, OutOfSlot, Others}
 
 -- ---- a state in a slot
 

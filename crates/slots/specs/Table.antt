@@ -48,3 +48,13 @@ SlotKnown net tab i = (s : ℕ) → inSlot tab i s ≡ true → OfSetting net s
 -- and each of layers 0 to d
 abbrev pub Known : Network → ℕ → List ℕ → ℕ → Type 0
 Known net start tab d = (j s : ℕ) → j ≤ d → layersOf start tab j s ≡ true → OfSetting net s
+
+-- the n entries from number `at` on are 0
+abbrev pub NoneFrom : List ℕ → ℕ → ℕ → Type 0
+NoneFrom tab at n = (k : ℕ) → k < n → getD tab (at + k) 0 ≡ 0
+
+-- the settings from `from` up to r, at most end, have no state in the slot that stands at `at`
+pub record Skipped (tab : List ℕ) (at from end r : ℕ) : Type 0 where
+  pub least : from ≤ r
+  pub most : r ≤ end
+  pub empty : (y : ℕ) → from ≤ y → y < r → getD tab (at + y) 0 ≡ 0

@@ -1,0 +1,3 @@
+-- Laws of the table of layers by slots.
+pub mod SlotLaws
+pub mod Skipping

@@ -1,0 +1,2 @@
+-- The table of layers.
+pub mod Table
