@@ -1,24 +1,21 @@
--- Laws for the callers of a network that the arrays hold: what `find_path` asks and answers, and what follows for the path's length, places and load.
+-- Laws for the callers of a network that the arrays hold: what `find_path` asks and answers.
 -- Assumes nothing.
-use mathlib.Core.Path.{_≡_, sym, ap, subst, _∙_}
-use mathlib.Core.Option.{Option}
-use mathlib.Core.List.{List, map}
+use mathlib.Core.Path.{_≡_, ap, subst, _∙_}
+use mathlib.Core.List.{List}
 use Prim.Native.Nat.{ℕ, suc, _<_, _≤_}
 use native.Mathlib.Omega.{arith}
 use lib.ListN.{length, getD, take}
-use Rattle.model.specs.Network.{Node, Network, Config, noNode}
-use Rattle.model.specs.Path.{ScanPath, path, stop, bitOf, walk, walkFrom, nodeOf, pathOf, pathIn, pathLength, on, place, csu}
+use Rattle.model.specs.Network.{Node, Network, noNode}
+use Rattle.model.specs.Path.{path, stop, bitOf, walk, walkFrom, nodeOf, pathOf}
 use Rattle.model.proofs.Lists.{length-tabulate}
 use Rattle.model.proofs.Walking.{valid-by}
 use Rattle.model.proofs.WellFormed.{GoodNode}
-use Rattle.words.specs.Words.{byteBit}
 use Rattle.path.specs.Layout.{nodeAt, nodesOf, configOf, scanPath}
 use Rattle.path.specs.Stored.{Stored, PathFound}
-use Rattle.path.specs.Answers.{Walkable, told, WalkHeld, Found, Loads}
+use Rattle.path.specs.Answers.{Walkable, told, WalkHeld, Found}
 use Rattle.path.specs.declared.walk.Walked.{Walked}
 use Rattle.path.specs.declared.walk.Walked.the-variants.{Path, Stop as Stopped}
 use Rattle.path.proofs.ConfigLaws.{good-safe, found-config}
-use Rattle.path.proofs.PathLaws.{isPlace, on-place}
 
 module _ (net : Network) (ns : List ℕ) (count out : ℕ) (st : Stored net ns count out) where
   stored-good : (n : ℕ) → n < length (nodesOf ns count) → GoodNode (nodesOf ns count) (suc n) (getD (nodesOf ns count) n noNode)
@@ -46,21 +43,3 @@ module _ (net : Network) (ns : List ℕ) (count out : ℕ) (st : Stored net ns c
     found-path n e =
         let w : walk net (configOf ns bits known count) ≡ path (scanPath ns (take n way)) = found-walk ∙ ap (told ns way) e in
         record { walks = w; is = ap pathOf w; valid = valid-by net (configOf ns bits known count) (scanPath ns (take n way)) w; holds = subst (WalkHeld ns way) e (f .holds) }
-
--- ---- what follows for the path's length, a segment's place on it, and the load
-
-module _ {net : Network} {c : Config} {ns way : List ℕ} {n : ℕ} (f : PathFound net c ns way n) where
-  pub length-found : (len : ℕ) → len ≡ pathLength (scanPath ns (take n way)) → len ≡ pathLength (pathIn net c)
-  length-found len e = e ∙ ap pathLength (sym (f .is))
-
-  pub place-found : (s : ℕ) (o : Option ℕ) → o ≡ place (scanPath ns (take n way)) s → o ≡ place (pathIn net c) s
-  place-found s o e = e ∙ ap (λ (p : ScanPath). place p s) (sym (f .is))
-
-  pub on-found : (s : ℕ) (o : Option ℕ) → o ≡ place (scanPath ns (take n way)) s → on (pathIn net c) s ≡ isPlace o
-  on-found s o e = on-place (pathIn net c) s ∙ ap isPlace (sym (place-found s o e))
-
-pub loads-found : (net : Network) (ns way : List ℕ) (n : ℕ) (scan bits known bits′ known′ : List ℕ) (count : ℕ) → PathFound net (configOf ns bits known count) ns way n
-    → Loads ns way n scan bits known bits′ known′
-    → configOf ns bits′ known′ count ≡ csu (pathIn net (configOf ns bits known count)) (map byteBit scan) (configOf ns bits known count)
-loads-found net ns way n scan bits known bits′ known′ count f l =
-    l .loads count ∙ ap (λ (p : ScanPath). csu p (map byteBit scan) (configOf ns bits known count)) (sym (f .is))

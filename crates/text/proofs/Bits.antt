@@ -13,8 +13,7 @@ use lib.Dec.{eqb}
 use borrow.Author.Tests.{eqb-true, eqb-false, ne-eqb}
 use Rattle.model.specs.Text.{Bytes, bind, bit, trit, bitsFrom, bitsField}
 use Rattle.model.specs.NetworkText.{isSome}
-use Rattle.model.specs.PlanText.{scanBits}
-use Rattle.model.proofs.LineForms.{Bound, bound}
+use Rattle.model.proofs.LineForms.{bound}
 use Rattle.model.proofs.Lists.{true-false, none-some, some-same}
 use Rattle.text.specs.Bits.{isBit, allBits, bitsForm}
 
@@ -76,21 +75,6 @@ pub all-every : (u : Bool) (s : Bytes) → every (isBit u) s ≡ allBits u s
 all-every true s = sym (bits-every trit [] s)
 all-every false s = sym (bits-every bit [] s)
 
--- the bits of a `csu` line
-scan-every : (s : Bytes) → isSome (scanBits s) ≡ every (λ b. isSome (bit b)) s
-unfolding scanBits every
-scan-every [] = refl
-scan-every (b ∷ s) = go (bit b) (scanBits s) (scan-every s)
-  where
-    go : (o : Option Bool) (rest : Option (List Bool)) → isSome rest ≡ every (λ b. isSome (bit b)) s
-        → isSome (bind o (λ v. bind rest (λ vs. some (v ∷ vs)))) ≡ (isSome o && every (λ b. isSome (bit b)) s)
-    go none rest e = refl
-    go (some v) none e = e
-    go (some v) (some vs) e = e
-
-pub all-scan : (s : Bytes) → allBits false s ≡ isSome (scanBits s)
-all-scan s = sym (all-every false s) ∙ sym (scan-every s)
-
 -- ---- a BITS field
 
 pub form-empty : (u : Bool) (f : Bytes) → length f ≡ 0 → false ≡ bitsForm u f
@@ -104,12 +88,6 @@ form-all true (b ∷ f) h = refl
 form-all false (b ∷ f) h = refl
 
 module _ {A : Type 0} (read : ℕ → Option A) where
-  -- a field read byte by byte, the bits so far above the rest
-  pub bits-next : (f : Bytes) (i : ℕ) (above bs : List A) → i < length f → bitsFrom read above (drop i f) ≡ some bs
-      → Bound (read (getD f i 0)) (λ v. bitsFrom read (v ∷ above) (drop (i + 1) f)) bs
-  unfolding bitsFrom
-  bits-next f i above bs h e = bound _ _ bs (rw (add-one) (rw (drop-cons f i 0 h) at e))
-
   pub bits-last : (f : Bytes) (i : ℕ) (above bs : List A) → length f ≤ i → bitsFrom read above (drop i f) ≡ some bs → above ≡ bs
   unfolding bitsFrom
   bits-last f i above bs h e = some-same above bs (rw (drop-of-length-le f h) at e)

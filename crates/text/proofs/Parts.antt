@@ -7,7 +7,7 @@ use Prim.Native.Nat.{ℕ, suc, _+_, _-_, _≤_, _<_}
 use native.Mathlib.Omega.{arith}
 use native.Mathlib.Numerals.{add-one}
 use lib.ListN.{length, take, drop, getD, drop-of-length-le, length-drop}
-use lib.Seq.{drop-cons, drop-drop, getD-drop}
+use lib.Seq.{drop-cons, drop-drop}
 use lib.Dec.{eqb}
 use borrow.Author.Tests.{eq-eqb, ne-eqb, eqb-true}
 use Rattle.model.specs.Text.{Bytes, inFirst, parts}
@@ -40,14 +40,6 @@ unfolding before parts
 before-nil sep = refl
 
 -- ---- a whole text, by the place of its first separator
-
-pub before-le : (sep : ℕ) (t : Bytes) → before sep t ≤ length t
-before-le sep [] = omega (arith, before-nil sep)
-before-le sep (b ∷ t) = go (eqb b sep) refl (before-le sep t)
-  where
-    go : (s : Bool) → eqb b sep ≡ s → before sep t ≤ length t → before sep (b ∷ t) ≤ suc (length t)
-    go true e h = omega (arith, before-hit sep b t e)
-    go false e h = omega (arith, before-miss sep b t e)
 
 -- no separator: one part
 pub parts-alone : (sep : ℕ) (t : Bytes) → before sep t ≡ length t → parts sep t ≡ t ∷ []
@@ -120,9 +112,3 @@ module _ (sep : ℕ) (t : Bytes) (at end : ℕ) (e : IsEnd sep t at end) where
       let n : end - at ≡ before sep (drop at t) = omega arith in
       let w : end + 1 ≡ at + suc (before sep (drop at t)) = omega arith in
       rw (n, w, ← (drop-drop (suc (before sep (drop at t))) at t)) (parts-ended sep (drop at t) (omega (arith, length-drop at t)) .1)
-
-  pub end-byte : end < length t → getD t end 0 ≡ sep
-  end-byte h =
-      ap (λ (m : ℕ). getD t m 0) (e .found)
-      ∙ sym (getD-drop at t (before sep (drop at t)) 0)
-      ∙ parts-ended sep (drop at t) (omega (arith, length-drop at t)) .0
