@@ -10,7 +10,7 @@ ghost use mathlib.Core.Bool.{cond};
 ghost use Prim.Native.Nat.{_≤_};
 ghost use lib.ListN.{length};
 ghost use Rattle.network_text.specs.Line.{nodeFor, SmallNode};
-ghost use Rattle.draft.specs.Store.{Row, RowStored, Marked};
+ghost use Rattle.draft.specs.Store.{Row, RowStored, Marked, BitMarked};
 
 // Counts, the node that feeds scan-out, and the targets: a target's word is 1 for `write` and 0 for `read`.
 pub struct Tally {
@@ -115,7 +115,7 @@ pub fn mark_steering(steering: &mut Words, x: NodeData)
 // Bit b of segment s is marked, if there are such a segment and such a bit.
 pub fn mark_bit(steering: &mut Words, s: usize, b: usize)
     requires { ⌜ length (now steering) ≡ 129 ⌝ }
-    ensures { λ _. ⌜ Rattle.draft.specs.Store.BitMarked (now (steering .entry)) s b (now (steering .exit)) ⌝ }
+    ensures { λ _. ⌜ BitMarked (now (steering .entry)) s b (now (steering .exit)) ⌝ }
 {
     if 128 < s {
         return;

@@ -1,5 +1,6 @@
 // The calls under C names, for programs in other languages. A slice is passed as a pointer and a count, an array as a pointer.
 use marker::mark;
+use marker::targets::Verdict as Judgement;
 use network::reader::Verdict;
 use network::reader::read_network;
 use plan_writer::Planned;
@@ -11,7 +12,6 @@ ghost use Rattle.model.specs.Calls.{writeClocks, makePlan};
 ghost use Rattle.model.specs.Mark.{mark as markOfTexts};
 ghost use Rattle.model.specs.NetworkText.{readNetwork};
 ghost use Rattle.exports.specs.Numbers.{readNumbers, markNumbers, countNumbers};
-use marker::targets::Verdict as Judgement;
 
 // Reads a network text. answer takes 0 and the counts of nodes, segment bits, distinct steering bits and bits of the start's
 // path; or a refusal's number and place, and three zeros.

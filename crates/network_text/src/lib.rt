@@ -1,6 +1,8 @@
 // One parsed line of a network text.
 pub mod node;
 
+use text::Number;
+use text::Word;
 ghost use mathlib.Core.Bool.{cond};
 ghost use mathlib.Core.List.{[]};
 ghost use mathlib.Core.Path.{_≡_};
@@ -11,8 +13,6 @@ ghost use Rattle.model.specs.NetworkText.{field, kind, lineBy};
 ghost use Rattle.text.specs.Numbers.{IsDecimal};
 ghost use Rattle.text.specs.Places.{Starts};
 ghost use Rattle.network_text.specs.Line.{kindFor, Placed, AreDecimals, IsEntry, plainLine, IsParsed, IsLine};
-use text::Number;
-use text::Word;
 
 // A node is a segment or a multiplexer, and each kind has its own fields. An input that a multiplexer lacks is 0.
 pub enum NodeData {

@@ -7,7 +7,7 @@ use native.Mathlib.Omega.{arith}
 use native.Mathlib.Decide.{decLt}
 use lib.ListN.{length, getD, set, length-set}
 use lib.Seq.{getD-set-same, getD-set-other}
-use Rattle.rows.specs.Rows.{rowNumber, Outside, OrderWritten, RowWritten, Unread}
+use Rattle.rows.specs.Rows.{rowNumber, Outside, OrderWritten, RowWritten}
 
 -- ---- numbers of row x one after the other
 
@@ -65,12 +65,3 @@ module _ (old : List ℕ) (x : ℕ) (size : length old ≡ 8019) (small : x < 72
         outside = λ y i ne l. o .outside y i ne l ∙ p5 .outside y i ne l;
         size = o .size;
       }
-
-  -- of a setting that is not valid
-  pub row-unread : Unread old x (set (set (set old (x * 11 + 0) 1) (x * 11 + 1) 0) (x * 11 + 2) 0)
-  row-unread =
-      let p0 = filling-none old x 0 (λ j. getD (1 ∷ 0 ∷ 0 ∷ []) j 0) size in
-      let p1 = filling-more p0 (x * 11 + 0) 1 small (omega arith) (omega arith) refl in
-      let p2 = filling-more p1 (x * 11 + 1) 0 small (omega arith) (omega arith) refl in
-      let p3 = filling-more p2 (x * 11 + 2) 0 small (omega arith) (omega arith) refl in
-      record { known = p3 .are 0 (omega arith); count-is = p3 .are 1 (omega arith); gain-is = p3 .are 2 (omega arith); outside = p3 .outside; size = p3 .size }

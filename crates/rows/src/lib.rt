@@ -146,10 +146,8 @@ fn write_stop(rows: &mut Rows, x: usize)
     requires { ⌜ (length (now rows) ≡ 8019) × (x < 729) ⌝ }
     ensures { λ _. ⌜ Unread (now (rows .entry)) x (now (rows .exit)) ⌝ }
 {
-    let at = x * ROW;
-    rows[at + KNOWN] = 1;
-    rows[at + COUNT] = 0;
-    rows[at + GAIN] = 0;
+    let order = [0usize; 6];
+    write_row(rows, x, 0, 0, 0, 0, &order, 0);
 }
 
 // The row of setting x is written, by a walk.

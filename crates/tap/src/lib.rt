@@ -1,4 +1,5 @@
 // The test access port (TAP): the controller's table, the clock machine and the clock writer.
+use plan_text::Form;
 ghost use mathlib.Core.Path.{_≡_};
 ghost use mathlib.Core.List.{map};
 ghost use Prim.Native.Nat.{_+_, _≤_, _<_};
@@ -8,7 +9,6 @@ ghost use Rattle.plan_text.specs.Form.{HasForm};
 ghost use Rattle.plan_text.specs.Writing.{writeAt};
 ghost use Rattle.tap.specs.Machine.{columnOf, isOne, number, stateAt, nextNumber, stateAfter};
 ghost use Rattle.tap.specs.Clocks.{tmsBytes, tdiBytes, answerOf};
-use plan_text::Form;
 
 // The next state for TMS 0 and for TMS 1 of each state: 0 Test-Logic-Reset, 1 Run-Test/Idle, 2 Select-DR, 3 Capture-DR,
 // 4 Shift-DR, 5 Exit1-DR, 6 Pause-DR, 7 Exit2-DR, 8 Update-DR, 9 Select-IR, 10 Capture-IR, 11 Shift-IR, 12 Exit1-IR,
