@@ -2,15 +2,15 @@
 // It prints `clk` with TMS and TDI for each operation, or `fail` with number and place.
 fn main() {
     if 2 < os::arg_count() {
-        console::put_usage(
+        program_io::put_usage(
             b"usage: clock [PLAN]\nPLAN is a plan text; without it standard input is read\n",
         );
         return;
     }
     let mut text = [0u8; 64081];
-    let input = console::read_input(b"PLAN", &mut text);
+    let input = program_io::read_input(b"PLAN", &mut text);
     if input.is_read {
         let n = input.count;
-        printed::clocks::show(&text[..n]);
+        program_output::clocks::show(&text[..n]);
     }
 }

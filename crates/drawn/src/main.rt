@@ -1,28 +1,28 @@
 // drawn: what the programs print for the networks of document 01, "Drawn networks", each behind a title line.
 fn put_title(title: &[u8], program: &[u8]) {
-    console::put(title);
-    console::put(program);
-    console::end_line();
+    program_io::put(title);
+    program_io::put(program);
+    program_io::end_line();
 }
 
 fn read(title: &[u8], network: &[u8]) {
     put_title(title, b": read");
-    printed::reading::show(network);
+    program_output::reading::show(network);
 }
 
 fn mark(title: &[u8], network: &[u8], plan: &[u8]) {
     put_title(title, b": mark");
-    printed::mark::show(network, plan);
+    program_output::mark::show(network, plan);
 }
 
 fn plan(title: &[u8], network: &[u8]) {
     put_title(title, b": plan");
-    printed::plan::show(network);
+    program_output::plan::show(network);
 }
 
 fn clock(title: &[u8], plan: &[u8]) {
     put_title(title, b": clock");
-    printed::clocks::show(plan);
+    program_output::clocks::show(plan);
 }
 
 // A network text that is refused, whatever the plan.
@@ -94,7 +94,7 @@ fn plan_lines() {
 
 fn main() {
     if 1 < os::arg_count() {
-        console::put_usage(b"usage: drawn\nIt takes no arguments\n");
+        program_io::put_usage(b"usage: drawn\nIt takes no arguments\n");
         return;
     }
     network_a();

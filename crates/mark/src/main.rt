@@ -3,21 +3,21 @@
 // target, or `fail` with number and place.
 fn main() {
     if os::arg_count() != 3 {
-        console::put_usage(
+        program_io::put_usage(
             b"usage: mark NETWORK PLAN\nNETWORK is a network text, PLAN a plan text\n",
         );
         return;
     }
     let mut network = [0u8; 16385];
-    let first = console::read_argument(1, b"NETWORK", &mut network);
+    let first = program_io::read_argument(1, b"NETWORK", &mut network);
     if !first.is_read {
         return;
     }
     let mut plan = [0u8; 64081];
-    let second = console::read_argument(2, b"PLAN", &mut plan);
+    let second = program_io::read_argument(2, b"PLAN", &mut plan);
     if second.is_read {
         let n = first.count;
         let p = second.count;
-        printed::mark::show(&network[..n], &plan[..p]);
+        program_output::mark::show(&network[..n], &plan[..p]);
     }
 }

@@ -18,9 +18,9 @@ use Rattle.model.proofs.Lists.{not-ok, ok-is}
 use Rattle.model.proofs.Marking.{passed-run}
 use Rattle.model.proofs.MarkerDemand.{marked-texts}
 use Rattle.model.proofs.Demands.{marker, clocks as written, played}
-use Rattle.tap.specs.declared.Written.{Written}
-use Rattle.tap.specs.declared.Written.the-variants.{Clocks, Refused as NotWritten}
-use Rattle.tap.specs.Clocks.{answerOf}
+use Rattle.clock_writer.specs.declared.Written.{Written}
+use Rattle.clock_writer.specs.declared.Written.the-variants.{Clocks, Refused as NotWritten}
+use Rattle.clock_writer.specs.Clocks.{answerOf}
 use Rattle.marker.specs.declared.targets.Verdict.{Verdict}
 use Rattle.marker.specs.declared.targets.Verdict.the-variants.{Pass as Passed, Refused}
 use Rattle.marker.specs.Marks.{gotsOf, verdictOf}

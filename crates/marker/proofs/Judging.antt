@@ -16,15 +16,15 @@ use Rattle.model.specs.Network.{Config, Target, read, write, tabulate}
 use Rattle.model.specs.Path.{ScanPath, bitValue}
 use Rattle.model.specs.Mark.{Got, Pass, sameTrit, holdsBits, withGot, readAt, writtenAt, targetsFrom}
 use Rattle.model.proofs.Lists.{tabulate-whole, tabulate-step, tabulate-none}
-use Rattle.words.specs.Words.{wordBit, tritAt, tritsOf}
-use Rattle.path.specs.Layout.{configOf}
-use Rattle.path.proofs.ConfigLaws.{config-row}
-use Rattle.draft.specs.declared.store.Tally.{Tally}
-use Rattle.draft.specs.Draws.{targetAt, targetsOf}
+use Rattle.network_words.specs.Words.{wordBit, tritAt, tritsOf}
+use Rattle.network_path.specs.Layout.{configOf}
+use Rattle.network_path.proofs.ConfigLaws.{config-row}
+use Rattle.network_draft.specs.declared.store.Tally.{Tally}
+use Rattle.network_draft.specs.Draws.{targetAt, targetsOf}
 use Rattle.marker.specs.declared.targets.Gots.{Gots}
 use Rattle.marker.specs.declared.targets.Verdict.the-variants.{Pass as Passed}
 use Rattle.marker.specs.Marks.{gotsOf, Blank, noGots, refusedMark}
-use Rattle.operations.specs.Operations.{accessOf, Reached}
+use Rattle.marker_operations.specs.Operations.{accessOf, Reached}
 use Rattle.marker.specs.Targets.{Pushed, segmentOf, Judgeable, lenAt, isHeld, Judges}
 use Rattle.marker.proofs.Rows.{blank-none}
 

@@ -14,24 +14,24 @@ use Rattle.model.specs.Tap.{planClocks}
 use Rattle.model.specs.Mark.{Pass, Run, targetsFrom, passed, byStart, markPlan, mark}
 use Rattle.model.proofs.Lists.{zero-at}
 use Rattle.model.proofs.PlanTexts.{clocks-bytes}
-use Rattle.path.specs.Answers.{ConfigSized}
+use Rattle.network_path.specs.Answers.{ConfigSized}
 use Rattle.plan_text.specs.Form.{formOf, planForm, HasForm}
 use Rattle.plan_text.specs.declared.Form.{Form}
 use Rattle.plan_text.specs.declared.Form.the-variants.{Good, Refused as Bad}
 use Rattle.plan_text.proofs.Forms.{GoodText, form-good, form-refused}
-use Rattle.network.specs.declared.reader.Network.{Network}
-use Rattle.network.specs.declared.reader.Reading.{Reading}
-use Rattle.network.specs.declared.reader.Verdict.{Verdict}
-use Rattle.network.specs.declared.reader.Verdict.the-variants.{Accepted, Refused as Rejected}
-use Rattle.network.specs.Reads.{networkOf, IsReading}
-use Rattle.operations.specs.declared.Ran.{Ran}
-use Rattle.operations.specs.declared.Ran.the-variants.{Done, Refused}
+use Rattle.network_reader.specs.declared.reader.Network.{Network}
+use Rattle.network_reader.specs.declared.reader.Reading.{Reading}
+use Rattle.network_reader.specs.declared.reader.Verdict.{Verdict}
+use Rattle.network_reader.specs.declared.reader.Verdict.the-variants.{Accepted, Refused as Rejected}
+use Rattle.network_reader.specs.Reads.{networkOf, IsReading}
+use Rattle.marker_operations.specs.declared.Ran.{Ran}
+use Rattle.marker_operations.specs.declared.Ran.the-variants.{Done, Refused}
 use Rattle.marker.specs.declared.targets.Mark.{Mark}
 use Rattle.marker.specs.Marks.{markOf, refusedMark, RowsFor, Markable, planMark}
 use Rattle.marker.specs.Targets.{Judgeable, Judges}
-use Rattle.operations.specs.Operations.{Slots, configAt, RanAs, Starts, Startable, fromStart, Runs, Reached}
-use Rattle.network.proofs.Records.{Recorded, reading-rejected, reading-recorded, target-segment}
-use Rattle.operations.proofs.Noting.{reached-none}
+use Rattle.marker_operations.specs.Operations.{Slots, configAt, RanAs, Starts, Startable, fromStart, Runs, Reached}
+use Rattle.network_reader.proofs.Records.{Recorded, reading-rejected, reading-recorded, target-segment}
+use Rattle.marker_operations.proofs.Noting.{reached-none}
 
 -- ---- the texts
 

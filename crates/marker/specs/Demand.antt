@@ -18,9 +18,9 @@ use Rattle.model.specs.Mark.{mark}
 use Rattle.model.specs.Calls.{writeClocks}
 use Rattle.model.specs.Played.{UpheldBy}
 use Rattle.model.specs.Demands.{AcceptedAndValid}
-use Rattle.tap.specs.declared.Written.{Written}
-use Rattle.tap.specs.declared.Written.the-variants.{Clocks}
-use Rattle.tap.specs.Clocks.{answerOf}
+use Rattle.clock_writer.specs.declared.Written.{Written}
+use Rattle.clock_writer.specs.declared.Written.the-variants.{Clocks}
+use Rattle.clock_writer.specs.Clocks.{answerOf}
 use Rattle.marker.specs.declared.targets.Mark.{Mark}
 use Rattle.marker.specs.declared.targets.Verdict.the-variants.{Pass}
 use Rattle.marker.specs.Marks.{gotsOf, markOf}

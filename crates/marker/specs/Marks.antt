@@ -10,9 +10,9 @@ use Rattle.model.specs.Network.{tabulate}
 use Rattle.model.specs.PlanText.{readPlan}
 use Rattle.model.specs.Mark.{Got, Pass, markPlan}
 use Rattle.plan_text.specs.Form.{planForm}
-use Rattle.network.specs.declared.reader.Network.{Network}
-use Rattle.network.specs.declared.reader.Verdict.the-variants.{Accepted}
-use Rattle.network.specs.Reads.{networkOf, IsReading}
+use Rattle.network_reader.specs.declared.reader.Network.{Network}
+use Rattle.network_reader.specs.declared.reader.Verdict.the-variants.{Accepted}
+use Rattle.network_reader.specs.Reads.{networkOf, IsReading}
 use Rattle.marker.specs.declared.targets.Verdict.{Verdict}
 use Rattle.marker.specs.declared.targets.Verdict.the-variants.{Pass as Passed, Refused}
 use Rattle.marker.specs.declared.targets.Gots.{Gots}

@@ -9,14 +9,14 @@ use Rattle.model.specs.Result.{ok, andThen}
 use Rattle.model.specs.Network.{lenOf, tabulate}
 use Rattle.model.specs.Path.{ScanPath}
 use Rattle.model.specs.Mark.{holdsBits, targetsFrom}
-use Rattle.words.specs.Words.{wordWidth, wordBit, tritsOf}
-use Rattle.path.specs.Layout.{nodeAt, configOf}
-use Rattle.path.specs.Answers.{ConfigSized}
-use Rattle.draft.specs.declared.store.Tally.{Tally}
-use Rattle.draft.specs.Draws.{Tame, targetsOf}
+use Rattle.network_words.specs.Words.{wordWidth, wordBit, tritsOf}
+use Rattle.network_path.specs.Layout.{nodeAt, configOf}
+use Rattle.network_path.specs.Answers.{ConfigSized}
+use Rattle.network_draft.specs.declared.store.Tally.{Tally}
+use Rattle.network_draft.specs.Draws.{Tame, targetsOf}
 use Rattle.marker.specs.declared.targets.Gots.{Gots}
 use Rattle.marker.specs.declared.targets.Mark.{Mark}
-use Rattle.operations.specs.Operations.{Reached}
+use Rattle.marker_operations.specs.Operations.{Reached}
 use Rattle.marker.specs.Marks.{gotsOf, Blank, markOf}
 
 -- ---- rows

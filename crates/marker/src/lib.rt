@@ -2,11 +2,11 @@
 use crate::targets::Mark;
 use crate::targets::judge;
 use crate::targets::refused;
-use network::reader::Network;
-use network::reader::Verdict;
-use network::reader::read_network;
-use operations::Ran;
-use operations::run_plan;
+use marker_operations::Ran;
+use marker_operations::run_plan;
+use network_reader::reader::Network;
+use network_reader::reader::Verdict;
+use network_reader::reader::read_network;
 use plan_text::Form;
 use plan_text::check_form;
 ghost use mathlib.Core.Path.{_≡_};

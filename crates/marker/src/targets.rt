@@ -1,16 +1,16 @@
 // The targets after the operations: 17 for the lowest that was on no path or does not hold its bits, or the pass with its `got` rows.
-use draft::store::Tally;
-use path::layout::Nodes;
-use path::layout::Words;
-use path::layout::segment_len;
-use path::layout::wide;
-use words::Word;
-use words::bit_at;
+use network_draft::store::Tally;
+use network_path::layout::Nodes;
+use network_path::layout::Words;
+use network_path::layout::segment_len;
+use network_path::layout::wide;
+use network_words::Word;
+use network_words::bit_at;
 ghost use mathlib.Core.Path.{_≡_};
 ghost use Prim.Native.Nat.{_≤_, _<_};
 ghost use Rattle.model.specs.Mark.{holdsBits};
 ghost use Rattle.model.specs.Network.{tabulate};
-ghost use Rattle.words.specs.Words.{wordWidth, wordBit, tritsOf};
+ghost use Rattle.network_words.specs.Words.{wordWidth, wordBit, tritsOf};
 ghost use Rattle.marker.specs.Marks.{noGots, Blank, refusedMark, RowsFor};
 ghost use Rattle.marker.specs.Targets.{Pushed, Judgeable, isHeld, Judges};
 

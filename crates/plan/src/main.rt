@@ -2,15 +2,15 @@
 // It prints the plan text, nothing for a plan of no operations, or `fail` with number and place.
 fn main() {
     if 2 < os::arg_count() {
-        console::put_usage(
+        program_io::put_usage(
             b"usage: plan [NETWORK]\nNETWORK is a network text; without it standard input is read\n",
         );
         return;
     }
     let mut text = [0u8; 16385];
-    let input = console::read_input(b"NETWORK", &mut text);
+    let input = program_io::read_input(b"NETWORK", &mut text);
     if input.is_read {
         let n = input.count;
-        printed::plan::show(&text[..n]);
+        program_output::plan::show(&text[..n]);
     }
 }

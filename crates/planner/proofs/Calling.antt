@@ -15,11 +15,11 @@ use Rattle.model.specs.PlanText.{writePlan}
 use Rattle.model.specs.NetworkText.{readNetwork}
 use Rattle.model.specs.Planner.{planFor}
 use Rattle.model.specs.Calls.{writeOver, written, countOf, ifRoom, searchEntries, searchable, planned, cleared, PlanAnswer, makePlan}
-use Rattle.network.specs.declared.reader.Network.{Network}
-use Rattle.network.specs.Reads.{networkOf}
-use Rattle.plan_writer.specs.declared.Planned.{Planned}
-use Rattle.plan_writer.specs.declared.Planned.the-variants.{Refused}
-use Rattle.plan_writer.specs.Writing.{answerOf, Given}
+use Rattle.network_reader.specs.declared.reader.Network.{Network}
+use Rattle.network_reader.specs.Reads.{networkOf}
+use Rattle.planner_text.specs.declared.Planned.{Planned}
+use Rattle.planner_text.specs.declared.Planned.the-variants.{Refused}
+use Rattle.planner_text.specs.Writing.{answerOf, Given}
 use Rattle.planner.specs.Call.{PlansIn}
 
 -- ---- the answer of the search

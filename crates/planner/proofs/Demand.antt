@@ -14,9 +14,9 @@ use Rattle.model.proofs.Lists.{not-ok, refusal-number, refusal-place}
 use Rattle.model.proofs.Demands.{planner, limits}
 use Rattle.marker.proofs.Demand.{verdict-pass}
 use Rattle.marker.specs.Marks.{gotsOf}
-use Rattle.plan_writer.specs.declared.Planned.{Planned}
-use Rattle.plan_writer.specs.declared.Planned.the-variants.{Written, Refused}
-use Rattle.plan_writer.specs.Writing.{answerOf}
+use Rattle.planner_text.specs.declared.Planned.{Planned}
+use Rattle.planner_text.specs.declared.Planned.the-variants.{Written, Refused}
+use Rattle.planner_text.specs.Writing.{answerOf}
 use Rattle.planner.specs.Demand.{PlanWritten, Outcome, no-plan, a-plan, PlansExactly, RefusesOnlyShort}
 
 -- an answer is told by its number and values

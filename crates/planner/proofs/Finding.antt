@@ -13,18 +13,18 @@ use Rattle.model.specs.Planner.{orNext, searchFrom, leastFrom, planFor}
 use Rattle.model.proofs.Accepted.{Accepted}
 use Rattle.model.proofs.Lists.{some-same}
 use Rattle.plan_text.proofs.Writing.{over-length}
-use Rattle.search.specs.Search.{Sys, planIn, planFrom, planUpTo}
-use Rattle.search.specs.Settings.{numberOf}
-use Rattle.search.specs.Moves.{sysOf, decode}
-use Rattle.search.proofs.Least.{plan-length}
-use Rattle.search.proofs.SettingNumbers.{setting-small}
-use Rattle.search.proofs.SameSearch.{plan-is}
-use Rattle.search.proofs.Decoded.{plan-follows}
-use Rattle.plan_search.specs.declared.plan.Found.{Found}
-use Rattle.plan_search.specs.declared.plan.Found.the-variants.{Operations, Nothing}
-use Rattle.plan_search.specs.Plans.{foundOf, withChoices, PlanFound}
-use Rattle.plan_writer.specs.Writing.{Picked}
-use Rattle.plan_writer.proofs.WholeText.{choice-held}
+use Rattle.planner_theory.specs.Search.{Sys, planIn, planFrom, planUpTo}
+use Rattle.planner_theory.specs.Settings.{numberOf}
+use Rattle.planner_theory.specs.Moves.{sysOf, decode}
+use Rattle.planner_theory.proofs.Least.{plan-length}
+use Rattle.planner_theory.proofs.SettingNumbers.{setting-small}
+use Rattle.planner_theory.proofs.SameSearch.{plan-is}
+use Rattle.planner_theory.proofs.Decoded.{plan-follows}
+use Rattle.planner_search.specs.declared.plan.Found.{Found}
+use Rattle.planner_search.specs.declared.plan.Found.the-variants.{Operations, Nothing}
+use Rattle.planner_search.specs.Plans.{foundOf, withChoices, PlanFound}
+use Rattle.planner_text.specs.Writing.{Picked}
+use Rattle.planner_text.proofs.WholeText.{choice-held}
 
 -- ---- the length of a plan
 

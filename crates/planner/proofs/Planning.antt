@@ -10,31 +10,31 @@ use Rattle.model.specs.Network.{steeringBits, tabulate}
 use Rattle.model.specs.PlanText.{writePlan}
 use Rattle.model.specs.Calls.{writeOver, searchEntries}
 use Rattle.model.proofs.Lists.{zero-at, length-tabulate}
-use Rattle.path.specs.Layout.{lookIn}
+use Rattle.network_path.specs.Layout.{lookIn}
 use Rattle.plan_text.proofs.Writing.{over-none}
-use Rattle.network.specs.declared.reader.Network.{Network}
-use Rattle.draft.specs.Draws.{targetAt}
-use Rattle.network.specs.Reads.{networkOf}
-use Rattle.search.specs.Settings.{settingOf, numberOf}
-use Rattle.search.specs.Moves.{decode}
-use Rattle.search.proofs.SettingNumbers.{setting-small}
-use Rattle.search.proofs.MoveLaws.{settings-within}
-use Rattle.steering.specs.declared.Problem.{Problem}
-use Rattle.steering.specs.Steering.{steeringOf, ProblemOf}
-use Rattle.settings.specs.Route.{Prepared, Each}
-use Rattle.rows.specs.Rows.{RowsRight}
-use Rattle.settings.proofs.SettingWalk.{planned-few}
-use Rattle.plan_search.specs.declared.plan.Found.{Found}
-use Rattle.plan_search.specs.declared.plan.Found.the-variants.{Operations, Nothing}
-use Rattle.layers.specs.Spreading.{Starts}
-use Rattle.plan_search.specs.Plans.{PlanFound}
-use Rattle.plan_writer.specs.declared.Planned.{Planned}
-use Rattle.plan_writer.specs.declared.Planned.the-variants.{Written, Refused}
-use Rattle.plan_writer.specs.Writing.{CountsOf, Countable, GivesText}
+use Rattle.network_reader.specs.declared.reader.Network.{Network}
+use Rattle.network_draft.specs.Draws.{targetAt}
+use Rattle.network_reader.specs.Reads.{networkOf}
+use Rattle.planner_theory.specs.Settings.{settingOf, numberOf}
+use Rattle.planner_theory.specs.Moves.{decode}
+use Rattle.planner_theory.proofs.SettingNumbers.{setting-small}
+use Rattle.planner_theory.proofs.MoveLaws.{settings-within}
+use Rattle.planner_steering.specs.declared.Problem.{Problem}
+use Rattle.planner_steering.specs.Steering.{steeringOf, ProblemOf}
+use Rattle.planner_settings.specs.Route.{Prepared, Each}
+use Rattle.planner_rows.specs.Rows.{RowsRight}
+use Rattle.planner_settings.proofs.SettingWalk.{planned-few}
+use Rattle.planner_search.specs.declared.plan.Found.{Found}
+use Rattle.planner_search.specs.declared.plan.Found.the-variants.{Operations, Nothing}
+use Rattle.planner_forward.specs.Spreading.{Starts}
+use Rattle.planner_search.specs.Plans.{PlanFound}
+use Rattle.planner_text.specs.declared.Planned.{Planned}
+use Rattle.planner_text.specs.declared.Planned.the-variants.{Written, Refused}
+use Rattle.planner_text.specs.Writing.{CountsOf, Countable, GivesText}
 use Rattle.planner.specs.Call.{Searchable, PlansIn}
 use Rattle.planner.proofs.Records.{record-planned, record-number}
 use Rattle.planner.proofs.Finding.{plan-empty, found-nothing, FoundPlan, found-plan}
-use Rattle.plan_writer.proofs.Given.{given-written}
+use Rattle.planner_text.proofs.Given.{given-written}
 use Rattle.planner.proofs.Calling.{plans-none, plans-given}
 
 -- a table of zeros has no row yet

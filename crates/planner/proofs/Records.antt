@@ -10,18 +10,18 @@ use Rattle.model.specs.Network.{Node, at, noNode, lenOf, steeringBits}
 use Rattle.model.specs.Path.{bitOf}
 use Rattle.model.proofs.Accepted.{Accepted}
 use Rattle.model.proofs.Lists.{length-tabulate}
-use Rattle.words.specs.Words.{wordWidth}
-use Rattle.path.specs.Layout.{nodeAt, nodesOf, configOf, lookIn}
-use Rattle.path.proofs.ConfigLaws.{config-bit, at-tabulate, good-most}
-use Rattle.network.specs.declared.reader.Network.{Network}
-use Rattle.draft.specs.Draws.{Short, targetsOf}
-use Rattle.network.specs.Reads.{networkOf, Filled}
-use Rattle.search.specs.Settings.{settingOf, numberOf}
-use Rattle.search.proofs.Steering.{steering-bit}
-use Rattle.search.proofs.SettingNumbers.{setting-same}
-use Rattle.steering.specs.declared.Problem.{Problem}
-use Rattle.steering.specs.Steering.{steeringOf, Steered, ProblemOf}
-use Rattle.settings.specs.Route.{Prepared}
+use Rattle.network_words.specs.Words.{wordWidth}
+use Rattle.network_path.specs.Layout.{nodeAt, nodesOf, configOf, lookIn}
+use Rattle.network_path.proofs.ConfigLaws.{config-bit, at-tabulate, good-most}
+use Rattle.network_reader.specs.declared.reader.Network.{Network}
+use Rattle.network_draft.specs.Draws.{Short, targetsOf}
+use Rattle.network_reader.specs.Reads.{networkOf, Filled}
+use Rattle.planner_theory.specs.Settings.{settingOf, numberOf}
+use Rattle.planner_theory.proofs.Steering.{steering-bit}
+use Rattle.planner_theory.proofs.SettingNumbers.{setting-same}
+use Rattle.planner_steering.specs.declared.Problem.{Problem}
+use Rattle.planner_steering.specs.Steering.{steeringOf, Steered, ProblemOf}
+use Rattle.planner_settings.specs.Route.{Prepared}
 
 module _ (r : Network) (filled : Filled r) (accepted : Accepted (networkOf r)) (few : r .«steering_count» ≤ 6) where
   record-length : length (nodesOf (r .nodes) (r .tally .count)) ≡ r .tally .count

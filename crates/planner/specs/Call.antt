@@ -7,10 +7,10 @@ use lib.ListN.{length, replicate}
 use Rattle.model.specs.Result.{ok}
 use Rattle.model.specs.Calls.{writeOver, written, countOf, searchEntries, planned}
 use Rattle.model.proofs.Accepted.{Accepted}
-use Rattle.network.specs.declared.reader.Network.{Network}
-use Rattle.network.specs.Reads.{networkOf, Filled}
-use Rattle.plan_writer.specs.declared.Planned.{Planned}
-use Rattle.plan_writer.specs.Writing.{answerOf}
+use Rattle.network_reader.specs.declared.reader.Network.{Network}
+use Rattle.network_reader.specs.Reads.{networkOf, Filled}
+use Rattle.planner_text.specs.declared.Planned.{Planned}
+use Rattle.planner_text.specs.Writing.{answerOf}
 
 -- an accepted network that came past the checks 10 and 12
 pub record Searchable (r : Network) (search : List ℕ) : Type 0 where

@@ -16,9 +16,9 @@ use Rattle.model.specs.Calls.{makePlan}
 use Rattle.marker.specs.declared.targets.Mark.{Mark}
 use Rattle.marker.specs.declared.targets.Verdict.the-variants.{Pass}
 use Rattle.marker.specs.Demand.{MarkReturned}
-use Rattle.plan_writer.specs.declared.Planned.{Planned}
-use Rattle.plan_writer.specs.declared.Planned.the-variants.{Written, Refused}
-use Rattle.plan_writer.specs.Writing.{answerOf}
+use Rattle.planner_text.specs.declared.Planned.{Planned}
+use Rattle.planner_text.specs.declared.Planned.the-variants.{Written, Refused}
+use Rattle.planner_text.specs.Writing.{answerOf}
 
 -- the contract: `make_plan` returned a, and left the search space as search′ and the plan buffer as plan′
 pub record MadePlan (n : Bytes) (search plan : List ℕ) (a : Planned) (search′ plan′ : List ℕ) : Type 0 where

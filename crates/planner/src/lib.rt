@@ -1,21 +1,21 @@
 // The planner: a network text to the plan with the fewest operations.
-use network::reader::Network;
-use network::reader::Verdict;
-use network::reader::read_network;
-use path::layout::wide;
-use plan_search::plan::Found;
-use plan_search::plan::clear;
-use plan_search::plan::find_plan;
-use plan_writer::Planned;
-use plan_writer::write_plan;
-use rows::Rows;
-use rows::power_of_2;
-use steering::problem_of;
-use steering::setting_number;
+use network_path::layout::wide;
+use network_reader::reader::Network;
+use network_reader::reader::Verdict;
+use network_reader::reader::read_network;
+use planner_rows::Rows;
+use planner_rows::power_of_2;
+use planner_search::plan::Found;
+use planner_search::plan::clear;
+use planner_search::plan::find_plan;
+use planner_steering::problem_of;
+use planner_steering::setting_number;
+use planner_text::Planned;
+use planner_text::write_plan;
 ghost use mathlib.Core.Path.{_≡_};
 ghost use Prim.Native.Nat.{_≤_};
 ghost use Rattle.model.specs.Calls.{makePlan};
-ghost use Rattle.plan_writer.specs.Writing.{answerOf};
+ghost use Rattle.planner_text.specs.Writing.{answerOf};
 ghost use Rattle.planner.specs.Call.{Searchable, PlansIn};
 
 // The most steering bits, and the entries of the search space.

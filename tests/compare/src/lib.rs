@@ -1,4 +1,4 @@
-//! The proved calls, through the static library of the crate `exports`.
+//! The proved calls, through the static library of the crate `c_api`.
 
 pub mod expected;
 pub mod lent;

@@ -1,7 +1,7 @@
 -- `planner::make_plan` meets its contract.
 -- Assumes nothing.
 use mathlib.Core.Path.{refl}
-use Rattle.network.proofs.Records.{reading-rejected, reading-recorded}
+use Rattle.network_reader.proofs.Records.{reading-rejected, reading-recorded}
 use Rattle.planner.proofs.Calling.{network-refused, too-many, too-short, searched}
 use borrow.Author.Needs.{needs}
 use Rattle.planner.proofs.make_plan.Statement.{statement}

@@ -4,7 +4,7 @@ use mathlib.Core.Path.{sym, ap, _∙_, subst}
 use Prim.Native.Nat.{ℕ, _-_, _<_}
 use native.Mathlib.Omega.{arith}
 use lib.Pow.{pow-pos}
-use Rattle.settings.proofs.SettingWalk.{planned-listed}
+use Rattle.planner_settings.proofs.SettingWalk.{planned-listed}
 use Rattle.planner.proofs.Records.{record-steered}
 use Rattle.planner.proofs.Planning.{rows-none, prepared, search-asks, finds-none, has-text, finds-plan}
 use borrow.Author.Needs.{needs}

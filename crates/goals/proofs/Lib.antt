@@ -1,2 +1,0 @@
--- Laws of the goals of a slot.
-pub mod GoalLaws

@@ -1,2 +1,0 @@
--- What the contracts of the goals cite.
-pub mod Goals

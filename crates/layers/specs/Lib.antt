@@ -1,2 +1,0 @@
--- What the contracts of the layers cite.
-pub mod Spreading

@@ -1,0 +1,148 @@
+-- A node line added: the refusals in order, and the arrays that then draw the longer draft.
+-- Assumes nothing.
+use mathlib.Core.Path.{_≡_, sym, ap, _∙_}
+use mathlib.Core.Bool.{Bool, true, false, cond, _||_}
+use mathlib.Core.List.{List, [], _∷_, _++_}
+use Prim.Native.Nat.{ℕ, suc, _+_, _≤_, _<_}
+use native.Mathlib.Omega.{arith}
+use native.Mathlib.Nat.{zero-add}
+use lib.ListN.{length, getD, take}
+use lib.Dec.{eqb}
+use borrow.Author.Tests.{le-leb, lt-leb, lt-ltb, le-ltb}
+use Rattle.model.specs.Result.{ok, refused}
+use Rattle.model.specs.Text.{Trit}
+use Rattle.model.specs.Network.{Node, lenOf, totalBits, tabulate, steersAt, heldOr, Held}
+use Rattle.model.specs.NetworkText.{Draft, hasOut, outside, addNode, withNode, isHeld, isSome}
+use Rattle.model.proofs.Lists.{tabulate-cong, true-false, tabulate-snoc}
+use Rattle.model.proofs.LineForms.{GoodForm}
+use Rattle.model.proofs.Reading.{Sound, Stage, no-out, behind-out, sound-node, total-more}
+use Rattle.network_words.specs.Words.{tritsOf}
+use Rattle.network_path.specs.Layout.{nodeAt, nodesOf}
+use Rattle.network_draft.specs.declared.store.Tally.{Tally}
+use Rattle.network_line.specs.declared.NodeData.{NodeData}
+use Rattle.network_line.specs.declared.NodeData.the-variants.{Segment, Multiplexer}
+use Rattle.network_line.specs.Line.{nodeFor, SmallNode}
+use Rattle.network_draft.specs.Store.{Row, RowStored, Marked}
+use Rattle.network_draft.specs.Draws.{Draws, targetAt, targetsOf}
+use Rattle.network_line.proofs.Bounds.{by-count}
+use Rattle.network_draft.proofs.Nodes.{node-by-fields}
+use Rattle.network_draft.proofs.Drawing.{steers-more, drawn-count, drawn-targets, kept-node}
+
+-- ---- the refusals
+
+module _ (d : Draft) (n : ℕ) (x : Node) where
+  pub node-4 : hasOut d ≡ true → addNode d n x ≡ refused 4 n
+  unfolding addNode
+  node-4 e = rw e
+
+  pub node-2 : hasOut d ≡ false → outside n x ≡ true → addNode d n x ≡ refused 2 n
+  unfolding addNode
+  node-2 e f = rw (e, f)
+
+  module _ (e : hasOut d ≡ false) (f : outside n x ≡ false) where
+    pub node-3 : 128 ≤ length (d .nodes) → addNode d n x ≡ refused 3 n
+    unfolding addNode
+    node-3 h = rw (e, f, le-leb 128 (length (d .nodes)) h)
+
+    module _ (h : length (d .nodes) < 128) where
+      pub bits-3 : 4000 < totalBits (d .nodes) + lenOf x → addNode d n x ≡ refused 3 n
+      unfolding addNode
+      bits-3 k = rw (e, f, lt-leb 128 (length (d .nodes)) h, lt-ltb 4000 (totalBits (d .nodes) + lenOf x) k)
+
+      pub node-added : totalBits (d .nodes) + lenOf x ≤ 4000 → addNode d n x ≡ ok (withNode d x)
+      unfolding addNode
+      node-added k = rw (e, f, lt-leb 128 (length (d .nodes)) h, le-ltb 4000 (totalBits (d .nodes) + lenOf x) k)
+
+-- a node of small fields has good form
+pub good-form : (x : NodeData) → SmallNode x → GoodForm (nodeFor x)
+good-form (Segment from len shadow) s = tt
+good-form (Multiplexer q b n i0 i1 i2 i3) s =
+    by-count (λ k. (2 ≤ length (take k (i0 ∷ i1 ∷ i2 ∷ i3 ∷ []))) × (length (take k (i0 ∷ i1 ∷ i2 ∷ i3 ∷ [])) ≤ 4)) n (s .2) (s .3)
+    (omega arith, omega arith) (omega arith, omega arith) (omega arith, omega arith)
+
+-- ---- the draft before `out` has no holds and no targets
+
+record Bare (d : Draft) : Type 0 where
+  no-holds : d .holds ≡ []
+  no-targets : d .targets ≡ []
+
+bare : (d : Draft) (n : ℕ) → Sound d n → hasOut d ≡ false → Bare d
+bare d n s e = go (s .stage)
+  where
+    go : Stage d n → Bare d
+    go (no-out p m hs ts) = record { no-holds = hs; no-targets = ts }
+    go (behind-out k p z y hs ts) = absurd (true-false (sym (ap isSome p) ∙ e))
+
+-- ---- the longer draft
+
+module _ (ns bits known steering held : List ℕ) (t : Tally) (d : Draft) (n : ℕ) (w : Draws ns bits known steering held t d n) (x : Node) (form : GoodForm x)
+    (row ns′ steering′ : List ℕ) (is-row : Row x row) (stored : RowStored ns (t .count + 1) row ns′) (marked : Marked steering x steering′)
+    (no : hasOut d ≡ false) (inside : outside n x ≡ false) (few : t .count < 128) (short : totalBits (d .nodes) + lenOf x ≤ 4000) where
+  abbrev t′ : Tally
+  t′ = record {
+    count = t .count + 1;
+    total = t .total + lenOf x;
+    «has_out» = t .«has_out»;
+    out = t .out;
+    «target_count» = t .«target_count»;
+    «target_segment» = t .«target_segment»;
+    «target_write» = t .«target_write»;
+    «target_bits» = t .«target_bits»;
+  }
+
+  its : Bare d
+  its = bare d n (w .sound) no
+
+  stored-node : nodeAt ns′ (t .count + 1) ≡ x
+  stored-node = node-by-fields ns′ row (t .count + 1) 0 (λ i h. stored .here i h ∙ ap (λ (k : ℕ). getD row k 0) (sym (zero-add i))) (is-row .kind) ∙ is-row .is
+
+  nodes′ : nodesOf ns′ (t .count + 1) ≡ d .nodes ++ x ∷ []
+  nodes′ =
+      let e : t .count + 1 ≡ suc (t .count) = omega arith in
+      let f : 1 + t .count ≡ t .count + 1 = omega arith in
+      ap (nodesOf ns′) e ∙ tabulate-snoc (nodeAt ns′) 1 (t .count)
+      ∙ ap (λ (l : List Node). l ++ nodeAt ns′ (1 + t .count) ∷ [])
+      (tabulate-cong (nodeAt ns′) (nodeAt ns) 1 (t .count) (λ k l. kept-node ns bits known steering held t d n w row ns′ (t .count + 1) stored (omega arith) (1 + k) (omega arith) (omega arith)) ∙ w .nodes-are)
+      ∙ ap (λ (y : Node). d .nodes ++ y ∷ []) (ap (nodeAt ns′) f ∙ stored-node)
+
+  no-targets′ : targetsOf ns′ t′ ≡ d .targets
+  no-targets′ =
+      let e : t .«target_count» ≡ 0 = sym (drawn-targets ns bits known steering held t d n w) ∙ ap length (its .no-targets) in
+      ap (tabulate (targetAt ns′ t′) 0) e ∙ sym (its .no-targets)
+
+  flag : (s : ℕ) → s ≤ 128 → eqb (getD held s 0) 1 ≡ false
+  unfolding isHeld
+  flag s l = w .held-is s l ∙ ap (λ (hs : List Held). isHeld hs s) (its .no-holds)
+
+  start′ : (s : ℕ) → s ≤ 128 → (other : List Trit)
+      → heldOr other (d .holds) s ≡ cond (eqb (getD held s 0) 1) (tritsOf (lenOf (nodeAt ns′ s)) (getD bits s 0) (getD known s 0)) other
+  unfolding heldOr
+  start′ s l other = ap (λ (hs : List Held). heldOr other hs s) (its .no-holds) ∙ ap (λ (b : Bool). cond b (tritsOf (lenOf (nodeAt ns′ s)) (getD bits s 0) (getD known s 0)) other) (sym (flag s l))
+
+  pub longer : Draws ns′ bits known steering′ held t′ (withNode d x) (suc n)
+  longer = record {
+    sized = record {
+      nodes = stored .size ∙ w .sized .nodes;
+      bit-words = w .sized .bit-words;
+      known-words = w .sized .known-words;
+      steering-words = marked .size ∙ w .sized .steering-words;
+      held-flags = w .sized .held-flags;
+    };
+    tame = record {
+      nodes-fit = omega arith;
+      bits-fit = omega (arith, w .total-is);
+      targets-fit = w .tame .targets-fit;
+      segments = w .tame .segments;
+      words = w .tame .words;
+      bits = w .tame .bits;
+    };
+    nodes-are = nodes′;
+    total-is = ap (λ (k : ℕ). k + lenOf x) (w .total-is) ∙ sym (total-more (d .nodes) x);
+    out-is = w .out-is;
+    targets-are = no-targets′;
+    steering-is = λ s b l m. marked .marks s b l m ∙ ap (λ (q : Bool). q || steersAt x s b) (w .steering-is s b l m) ∙ sym (steers-more (d .nodes) x s b);
+    steering-small = marked .small (w .steering-small);
+    held-is = w .held-is;
+    start-is = start′;
+    sound = sound-node d (withNode d x) n x form (w .sound) (node-added d n x no inside (omega (arith, drawn-count ns bits known steering held t d n w)) short);
+  }

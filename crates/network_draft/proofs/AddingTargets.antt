@@ -1,0 +1,263 @@
+-- A `read` or `write` line added.
+-- Assumes nothing.
+use mathlib.Core.Path.{_≡_, refl, sym, ap, _∙_, subst}
+use mathlib.Core.Bool.{Bool, true, false, cond, not, _&&_, _||_, Bool·beq}
+use mathlib.Core.List.{List, [], _∷_, _++_}
+use Prim.Native.Nat.{ℕ, zero, suc, _+_, _-_, _*_, _/_, _%_, _^_, _≤_, _<_}
+use native.Mathlib.Omega.{arith}
+use native.Mathlib.Numerals.{add-one}
+use native.Mathlib.Nat.{zero-div, zero-add, pow-suc}
+use lib.ListN.{length, getD, set, length-set}
+use lib.Seq.{getD-set-same, getD-set-other}
+use lib.Pow.{shr-shr}
+use lib.Dec.{eqb, leb}
+use borrow.Author.Tests.{eq-eqb, ne-eqb, le-leb, lt-leb, leb-true, not-false}
+use Rattle.model.specs.Result.{Result, ok, refused}
+use Rattle.model.specs.Network.{Node, segment, multiplexer, Target, read, write, at, noNode, hasShadow, lenOf, addressBits, tabulate, steers, steersAt, addressIn, isSteering}
+use Rattle.model.specs.NetworkText.{Draft, hasOut, isSome, badAddress, fitsTarget, sameTarget, isTarget, targetSegment, addFitting, addTarget, withTarget}
+use Rattle.model.proofs.Lists.{true-false, and-false-right, and-true-right, and-parts, or-left, or-right, eqb-same, tabulate-cong, tabulate-snoc}
+use Rattle.model.proofs.Reading.{Stage, no-out, behind-out, sound-target}
+use Rattle.model.proofs.Accepted.{no-bad, unsteered-bits}
+use Rattle.network_words.specs.Words.{wordWidth, wordBit}
+use Rattle.network_path.specs.Layout.{nodeAt}
+use Rattle.network_draft.specs.declared.store.Tally.{Tally}
+use Rattle.network_draft.specs.declared.add.Refusal.{Refusal}
+use Rattle.network_draft.specs.Draws.{Draws, targetAt, targetsOf, targetFor, sameWord, Agrees}
+use Rattle.network_draft.specs.Added.{IsWord}
+use Rattle.network_draft.proofs.Drawing.{drawn-short}
+
+-- ---- a repeat
+
+pub same-no : (seg word s : ℕ) (w : Bool) → (seg ≡ s → ⊥) → false ≡ sameWord seg word s w
+same-no seg word s w ne = rw (ne-eqb seg s ne)
+
+pub same-write : (seg word s : ℕ) (w : Bool) → seg ≡ s → w ≡ true → eqb word 1 ≡ sameWord seg word s w
+same-write seg word s w e f = rw (eq-eqb seg s e, f) (by (eqb word 1))
+  where
+    by : (b : Bool) → b ≡ Bool·beq b true
+    by true = refl
+    by false = refl
+
+pub same-read : (seg word s : ℕ) (w : Bool) → seg ≡ s → w ≡ false → not (eqb word 1) ≡ sameWord seg word s w
+same-read seg word s w e f = rw (eq-eqb seg s e, f) (by (eqb word 1))
+  where
+    by : (b : Bool) → not b ≡ Bool·beq b false
+    by true = refl
+    by false = refl
+
+module _ (ns : List ℕ) (t : Tally) (s : ℕ) (w : Bool) (bs : List Bool) where
+  abbrev X : Target
+  X = targetFor w s bs
+
+  abbrev From : ℕ → List Target
+  From i = tabulate (targetAt ns t) i (t .«target_count» - i)
+
+  same-target : (i : ℕ) → sameTarget (targetAt ns t i) X ≡ sameWord (getD (t .«target_segment») i 0) (getD (t .«target_write») i 0) s w
+  same-target i = go (eqb (getD (t .«target_write») i 0) 1) w (getD (t .«target_segment») i 0) _
+    where
+      go : (b w : Bool) (seg : ℕ) (cs : List Bool) → sameTarget (cond b (write seg cs) (read seg)) (targetFor w s bs) ≡ (eqb seg s && Bool·beq b w)
+      go true true seg cs = sym (and-true-right (eqb seg s))
+      go true false seg cs = sym (and-false-right (eqb seg s))
+      go false true seg cs = sym (and-false-right (eqb seg s))
+      go false false seg cs = sym (and-true-right (eqb seg s))
+
+  split : (i : ℕ) → i < t .«target_count» → From i ≡ targetAt ns t i ∷ From (i + 1)
+  split i l =
+      let e : t .«target_count» - i ≡ suc (t .«target_count» - (i + 1)) = omega arith in
+      ap (tabulate (targetAt ns t) i) e ∙ ap (λ (x : ℕ). targetAt ns t i ∷ tabulate (targetAt ns t) x (t .«target_count» - (i + 1))) (sym (add-one i))
+
+  pub there-start : isTarget (From 0) X ≡ isTarget (targetsOf ns t) X
+  there-start = let e : t .«target_count» - 0 ≡ t .«target_count» = omega arith in ap (λ (n : ℕ). isTarget (tabulate (targetAt ns t) 0 n) X) e
+
+  module _ (i : ℕ) (b : Bool) (is : b ≡ sameWord (getD (t .«target_segment») i 0) (getD (t .«target_write») i 0) s w) (l : i < t .«target_count») where
+    by-head : isTarget (From i) X ≡ (b || isTarget (From (i + 1)) X)
+    unfolding isTarget
+    by-head = ap (λ (ts : List Target). isTarget ts X) (split i l) ∙ ap (λ (x : Bool). x || isTarget (From (i + 1)) X) (same-target i ∙ sym is)
+
+    pub there-hit : b ≡ true → true ≡ isTarget (From i) X
+    there-hit e = sym (by-head ∙ ap (λ (x : Bool). x || isTarget (From (i + 1)) X) e)
+
+    pub there-miss : b ≡ false → isTarget (From (i + 1)) X ≡ isTarget (From i) X
+    there-miss e = sym (by-head ∙ ap (λ (x : Bool). x || isTarget (From (i + 1)) X) e)
+
+  pub there-end : (i : ℕ) → t .«target_count» ≤ i → false ≡ isTarget (From i) X
+  unfolding isTarget
+  there-end i l = let e : t .«target_count» - i ≡ 0 = omega arith in rw e
+
+-- ---- steering segments by their words
+
+word-zero : (k w : ℕ) → w < 2 ^ k → ((b : ℕ) → b < k → wordBit w b ≡ false) → w ≡ 0
+word-zero zero w l f = omega (arith, l)
+word-zero (suc k) w l f =
+    let p : 2 ^ suc k ≡ 2 ^ k * 2 = pow-suc 2 k in
+    let half : w / 2 < 2 ^ k = omega arith in
+    let low : w % 2 ≡ 1 → ⊥ = λ z. true-false (sym (eq-eqb (w / 2 ^ 0 % 2) 1 (omega arith)) ∙ f 0 (omega arith)) in
+    let high : w / 2 ≡ 0 = word-zero k (w / 2) half (λ b m. ap (λ (x : ℕ). eqb (x % 2) 1) (shr-shr w 1 b ∙ ap (λ (x : ℕ). w / 2 ^ x) (let z : 1 + b ≡ suc b = omega arith in z)) ∙ f (suc b) (omega arith)) in
+    omega arith
+
+zero-bit : (w b : ℕ) → w ≡ 0 → wordBit w b ≡ false
+zero-bit w b e = rw (e, zero-div (2 ^ b))
+
+here : (x : Node) (ns : List Node) (s b : ℕ) → steersAt x s b ≡ true → steers (x ∷ ns) s b ≡ true
+unfolding steers
+here x ns s b e = or-left (steersAt x s b) (steers ns s b) e
+
+there : (x : Node) (ns : List Node) (s b : ℕ) → steers ns s b ≡ true → steers (x ∷ ns) s b ≡ true
+unfolding steers
+there x ns s b e = or-right (steersAt x s b) (steers ns s b) e
+
+-- a steering segment has a steering bit within a word
+record SteeringBit (ns : List Node) (s : ℕ) : Type 0 where
+  b : ℕ
+  is : steers ns s b ≡ true
+  small : b < wordWidth
+
+module _ (all : List Node) (short : (s : ℕ) → lenOf (at all s noNode) ≤ wordWidth) where
+  node-bit : (x : Node) (s : ℕ) → badAddress all x ≡ false → addressIn s x ≡ true → (b : ℕ) × (steersAt x s b ≡ true) × (b < wordWidth)
+  node-bit (segment from len sh) s e f = absurd (true-false (sym f))
+  node-bit (multiplexer q b ins) s e f =
+      let g = and-parts (hasShadow (at all q noNode)) (leb (b + addressBits ins) (lenOf (at all q noNode))) (not-false _ e) in
+      let l = leb-true (b + addressBits ins) (lenOf (at all q noNode)) (g .1) in
+      let m = one-bit (leb (length ins) 2) in
+      (b, rw (f, eqb-same b), omega (arith, short q))
+    where
+      one-bit : (t : Bool) → 1 ≤ cond t 1 2
+      one-bit true = omega arith
+      one-bit false = omega arith
+
+  find-bit : (ns : List Node) (s : ℕ) → ((i : ℕ) → i < length ns → badAddress all (getD ns i noNode) ≡ false) → isSteering ns s ≡ true → SteeringBit ns s
+  unfolding isSteering
+  find-bit [] s f e = absurd (true-false (sym e))
+  find-bit (x ∷ ns) s f e = go (addressIn s x) refl e (λ g. find-bit ns s (λ i l. f (suc i) (omega arith)) g)
+    where
+      go : (t : Bool) → addressIn s x ≡ t → (t || isSteering ns s) ≡ true → (isSteering ns s ≡ true → SteeringBit ns s) → SteeringBit (x ∷ ns) s
+      go true q g r = let b = node-bit x s (f 0 (omega arith)) q in record { b = b .0; is = here x ns s (b .0) (b .1); small = b .2 }
+      go false q g r = let b = r g in record { b = b .b; is = there x ns s (b .b) (b .is); small = b .small }
+
+module _ (ns bits known steering held : List ℕ) (t : Tally) (d : Draft) (n : ℕ) (w : Draws ns bits known steering held t d n) (out : hasOut d ≡ true) where
+  no-first : (i : ℕ) → i < length (d .nodes) → badAddress (d .nodes) (getD (d .nodes) i noNode) ≡ false
+  no-first = go (w .sound .stage)
+    where
+      go : Stage d n → (i : ℕ) → i < length (d .nodes) → badAddress (d .nodes) (getD (d .nodes) i noNode) ≡ false
+      go (no-out p m hs ts) = absurd (true-false (sym out ∙ ap isSome p))
+      go (behind-out k p z y hs ts) = no-bad (d .nodes) (d .nodes) 1 y
+
+  pub not-steering : (s : ℕ) → s ≤ 128 → getD steering s 0 ≡ 0 → isSteering (d .nodes) s ≡ false
+  not-steering s l e = go (isSteering (d .nodes) s) refl
+    where
+      go : (b : Bool) → isSteering (d .nodes) s ≡ b → isSteering (d .nodes) s ≡ false
+      go false q = q
+      go true q =
+          let b = find-bit (d .nodes) (drawn-short ns bits known steering held t d n w) (d .nodes) s no-first q in
+          absurd (true-false (sym (b .is) ∙ sym (w .steering-is s (b .b) l (b .small)) ∙ zero-bit (getD steering s 0) (b .b) e))
+
+  pub is-steering : (s : ℕ) → s ≤ 128 → (getD steering s 0 ≡ 0 → ⊥) → isSteering (d .nodes) s ≡ true
+  is-steering s l ne = go (isSteering (d .nodes) s) refl
+    where
+      go : (b : Bool) → isSteering (d .nodes) s ≡ b → isSteering (d .nodes) s ≡ true
+      go true q = q
+      go false q = absurd (ne (word-zero wordWidth (getD steering s 0) (w .steering-small s) (λ b m. w .steering-is s b l m ∙ unsteered-bits (d .nodes) s b q)))
+
+-- ---- the refusals
+
+module _ (d : Draft) (n : ℕ) (x : Target) where
+  pub target-4 : hasOut d ≡ false → addTarget d n x ≡ refused 4 n
+  unfolding addTarget
+  target-4 e = rw e
+
+  pub target-6 : hasOut d ≡ true → fitsTarget (d .nodes) x ≡ false → addTarget d n x ≡ refused 6 n
+  unfolding addTarget
+  target-6 e f = rw (e, f)
+
+  pub target-rest : hasOut d ≡ true → fitsTarget (d .nodes) x ≡ true → addTarget d n x ≡ addFitting d n x
+  unfolding addTarget
+  target-rest e f = rw (e, f)
+
+  pub again-6 : isTarget (d .targets) x ≡ true → addFitting d n x ≡ refused 6 n
+  again-6 e = rw e
+
+  module _ (e : isTarget (d .targets) x ≡ false) where
+    pub target-7 : isSteering (d .nodes) (targetSegment x) ≡ true → addFitting d n x ≡ refused 7 n
+    target-7 f = rw (e, f)
+
+    module _ (f : isSteering (d .nodes) (targetSegment x) ≡ false) where
+      pub target-8 : 4 ≤ length (d .targets) → addFitting d n x ≡ refused 8 n
+      target-8 g = rw (e, f, le-leb 4 (length (d .targets)) g)
+
+      pub target-added : length (d .targets) < 4 → addFitting d n x ≡ ok (withTarget d x)
+      target-added g = rw (e, f, lt-leb 4 (length (d .targets)) g)
+
+pub segment-of : (w : Bool) (s : ℕ) (bs : List Bool) → targetSegment (targetFor w s bs) ≡ s
+segment-of true s bs = refl
+segment-of false s bs = refl
+
+-- ---- one target more
+
+module _ (ns bits known steering held : List ℕ) (t : Tally) (d : Draft) (n : ℕ) (w : Draws ns bits known steering held t d n)
+    (s : ℕ) (k : Bool) (word : ℕ) (bs : List Bool) (is-word : IsWord ns k s word bs) (room : t .«target_count» < 4)
+    (is : addTarget d n (targetFor k s bs) ≡ ok (withTarget d (targetFor k s bs))) where
+  abbrev c : ℕ
+  c = t .«target_count»
+
+  abbrev t′ : Tally
+  t′ = record {
+    count = t .count;
+    total = t .total;
+    «has_out» = t .«has_out»;
+    out = t .out;
+    «target_count» = c + 1;
+    «target_segment» = set (t .«target_segment») c s;
+    «target_write» = set (t .«target_write») c (cond k 1 0);
+    «target_bits» = set (t .«target_bits») c word;
+  }
+
+  old-target : (i : ℕ) → i < c → targetAt ns t′ i ≡ targetAt ns t i
+  old-target i l =
+      let ne : i ≡ c → ⊥ = λ z. omega arith in
+      rw (getD-set-other (t .«target_segment») c i s 0 ne, getD-set-other (t .«target_write») c i (cond k 1 0) 0 ne, getD-set-other (t .«target_bits») c i word 0 ne)
+
+  new-target : targetAt ns t′ c ≡ targetFor k s bs
+  new-target =
+      rw (
+        getD-set-same (t .«target_segment») c s 0 (omega (arith, w .tame .segments)),
+        getD-set-same (t .«target_write») c (cond k 1 0) 0 (omega (arith, w .tame .words)),
+        getD-set-same (t .«target_bits») c word 0 (omega (arith, w .tame .bits)),
+      ) (go k is-word)
+    where
+      go : (k : Bool) → IsWord ns k s word bs → cond (eqb (cond k 1 0) 1) (write s (tabulate (wordBit word) 0 (lenOf (nodeAt ns s)))) (read s) ≡ targetFor k s bs
+      go true f = ap (write s) (f refl)
+      go false f = refl
+
+  targets′ : targetsOf ns t′ ≡ d .targets ++ targetFor k s bs ∷ []
+  targets′ =
+      let e : c + 1 ≡ suc c = omega arith in
+      ap (tabulate (targetAt ns t′) 0) e ∙ tabulate-snoc (targetAt ns t′) 0 c
+      ∙ ap (λ (l : List Target). l ++ targetAt ns t′ (0 + c) ∷ [])
+      (tabulate-cong (targetAt ns t′) (targetAt ns t) 0 c (λ x l. let z : 0 + x < c = omega arith in old-target (0 + x) z) ∙ w .targets-are)
+      ∙ ap (λ (x : Target). d .targets ++ x ∷ []) (ap (targetAt ns t′) (zero-add c) ∙ new-target)
+
+  pub with-target : Draws ns bits known steering held t′ (withTarget d (targetFor k s bs)) (suc n)
+  with-target = record {
+    sized = w .sized;
+    tame = record {
+      nodes-fit = w .tame .nodes-fit;
+      bits-fit = w .tame .bits-fit;
+      targets-fit = omega arith;
+      segments = length-set (t .«target_segment») c s ∙ w .tame .segments;
+      words = length-set (t .«target_write») c (cond k 1 0) ∙ w .tame .words;
+      bits = length-set (t .«target_bits») c word ∙ w .tame .bits;
+    };
+    nodes-are = w .nodes-are;
+    total-is = w .total-is;
+    out-is = w .out-is;
+    targets-are = targets′;
+    steering-is = w .steering-is;
+    steering-small = w .steering-small;
+    held-is = w .held-is;
+    start-is = w .start-is;
+    sound = sound-target d (withTarget d (targetFor k s bs)) n (targetFor k s bs) (w .sound) is;
+  }
+
+-- what agrees with one of two equal results agrees with the other
+pub agrees-same : (D : Draft → Type 0) (a b : Result Draft) (r : Refusal) → a ≡ b → Agrees D b r → Agrees D a r
+agrees-same D a b r e f = subst (λ (x : Result Draft). Agrees D x r) (sym e) f

@@ -1,0 +1,114 @@
+-- The arrays and counts draw a draft: what the reader has at each line, in the model's terms.
+-- Assumes nothing.
+use mathlib.Core.Path.{_≡_}
+use mathlib.Core.Bool.{Bool, true, false, cond, _&&_, Bool·beq}
+use mathlib.Core.Option.{Option, none, some}
+use mathlib.Core.List.{List}
+use Prim.Native.Nat.{ℕ, zero, suc, _≤_, _<_}
+use lib.ListN.{length, getD, replicate}
+use lib.Dec.{eqb}
+use Rattle.model.specs.Result.{Result, ok, refused}
+use Rattle.model.specs.Text.{Trit}
+use Rattle.model.specs.Network.{Target, read, write, lenOf, totalBits, tabulate, steers, heldOr}
+use Rattle.model.specs.NetworkText.{Draft, isHeld, isTarget}
+use Rattle.model.proofs.LineForms.{GoodForm}
+use Rattle.model.proofs.Reading.{Sound}
+use Rattle.network_words.specs.Words.{wordWidth, wordBit, tritsOf}
+use Rattle.network_path.specs.Layout.{nodeAt, nodesOf}
+use Rattle.network_draft.specs.Store.{Small}
+use Rattle.network_draft.specs.declared.store.Tally.{Tally}
+use Rattle.network_draft.specs.declared.add.Refusal.{Refusal}
+use Rattle.network_draft.specs.declared.add.Refusal.the-variants.{Nothing, Refused}
+
+abbrev pub feedsOf : Bool → ℕ → Option ℕ
+feedsOf false k = none
+feedsOf true k = some k
+
+-- target i, counted from 0
+abbrev pub targetAt : List ℕ → Tally → ℕ → Target
+targetAt ns t i =
+    cond (eqb (getD (t .«target_write») i 0) 1)
+    (write (getD (t .«target_segment») i 0) (tabulate (wordBit (getD (t .«target_bits») i 0)) 0 (lenOf (nodeAt ns (getD (t .«target_segment») i 0)))))
+    (read (getD (t .«target_segment») i 0))
+
+abbrev pub targetsOf : List ℕ → Tally → List Target
+targetsOf ns t = tabulate (targetAt ns t) 0 (t .«target_count»)
+
+-- a target by its word
+abbrev pub targetFor : Bool → ℕ → List Bool → Target
+targetFor false s bs = read s
+targetFor true s bs = write s bs
+
+-- a stored target has this segment and this word
+abbrev pub sameWord : ℕ → ℕ → ℕ → Bool → Bool
+sameWord segment word s w = eqb segment s && Bool·beq (eqb word 1) w
+
+-- whether the targets have one with this segment and this word
+abbrev pub IsThere : Tally → ℕ → Bool → Bool → Type 0
+IsThere t s w r = (ns : List ℕ) (bs : List Bool) → r ≡ isTarget (targetsOf ns t) (targetFor w s bs)
+
+-- each node has good form
+abbrev pub Formed : List ℕ → ℕ → Type 0
+Formed ns count = (k : ℕ) → 1 ≤ k → k ≤ count → GoodForm (nodeAt ns k)
+
+-- no segment is longer than a word
+abbrev pub Short : List ℕ → ℕ → Type 0
+Short ns count = (k : ℕ) → 1 ≤ k → k ≤ count → lenOf (nodeAt ns k) ≤ wordWidth
+
+-- a number, or 0 for none
+abbrev pub ifNonzero : ℕ → Option ℕ
+ifNonzero zero = none
+ifNonzero (suc k) = some (suc k)
+
+-- the counts are within the arrays
+pub record Tame (t : Tally) : Type 0 where
+  pub nodes-fit : t .count ≤ 128
+  pub bits-fit : t .total ≤ 4000
+  pub targets-fit : t .«target_count» ≤ 4
+  pub segments : length (t .«target_segment») ≡ 4
+  pub words : length (t .«target_write») ≡ 4
+  pub bits : length (t .«target_bits») ≡ 4
+
+pub record Sized (ns bits known steering held : List ℕ) : Type 0 where
+  pub nodes : length ns ≡ 1032
+  pub bit-words : length bits ≡ 129
+  pub known-words : length known ≡ 129
+  pub steering-words : length steering ≡ 129
+  pub held-flags : length held ≡ 129
+
+-- before line n
+pub record Draws (ns bits known steering held : List ℕ) (t : Tally) (d : Draft) (n : ℕ) : Type 0 where
+  pub sized : Sized ns bits known steering held
+  pub tame : Tame t
+  pub nodes-are : nodesOf ns (t .count) ≡ d .nodes
+  pub total-is : t .total ≡ totalBits (d .nodes)
+  pub out-is : feedsOf (t .«has_out») (t .out) ≡ d .feeds
+  pub targets-are : targetsOf ns t ≡ d .targets
+  -- bit b of a segment's word of steering bits
+  pub steering-is : (s b : ℕ) → s ≤ 128 → b < wordWidth → wordBit (getD steering s 0) b ≡ steers (d .nodes) s b
+  pub steering-small : Small steering
+  -- a segment's flag of a `hold` line, and its start bits
+  pub held-is : (s : ℕ) → s ≤ 128 → eqb (getD held s 0) 1 ≡ isHeld (d .holds) s
+  pub start-is : (s : ℕ) → s ≤ 128 → (other : List Trit)
+      → heldOr other (d .holds) s ≡ cond (eqb (getD held s 0) 1) (tritsOf (lenOf (nodeAt ns s)) (getD bits s 0) (getD known s 0)) other
+  pub sound : Sound d n
+
+abbrev pub emptyTally : Tally
+emptyTally = record {
+  count = 0;
+  total = 0;
+  «has_out» = false;
+  out = 0;
+  «target_count» = 0;
+  «target_segment» = replicate 4 0;
+  «target_write» = replicate 4 0;
+  «target_bits» = replicate 4 0;
+}
+
+abbrev pub Drafted : List ℕ → List ℕ → List ℕ → List ℕ → List ℕ → Tally → ℕ → Type 0
+Drafted ns bits known steering held t n = (d : Draft) × Draws ns bits known steering held t d n
+
+-- an answer that agrees with the model's: the refusal, or nothing refused and D of the new draft
+abbrev pub Agrees : (Draft → Type 0) → Result Draft → Refusal → Type 0
+Agrees D (ok e) r = (r ≡ Nothing) × D e
+Agrees D (refused number place) r = r ≡ Refused number place

@@ -1,0 +1,39 @@
+-- What storing a node leaves in the arrays.
+-- Assumes nothing.
+use mathlib.Core.Path.{_≡_}
+use mathlib.Core.Bool.{_&&_, _||_}
+use mathlib.Core.List.{List}
+use Prim.Native.Nat.{ℕ, _^_, _≤_, _<_}
+use lib.ListN.{length, getD}
+use lib.Dec.{eqb}
+use Rattle.model.specs.Network.{Node, steersAt}
+use Rattle.network_words.specs.Words.{wordWidth, wordBit}
+use Rattle.network_path.specs.Layout.{fieldAt, nodeAt}
+
+-- eight numbers that are a node
+pub record Row (x : Node) (row : List ℕ) : Type 0 where
+  pub size : length row ≡ 8
+  pub kind : getD row 0 0 ≤ 4
+  pub is : nodeAt row 0 ≡ x
+
+-- node k has these eight numbers, and every other node its own
+pub record RowStored (ns : List ℕ) (k : ℕ) (row ns′ : List ℕ) : Type 0 where
+  pub size : length ns′ ≡ length ns
+  pub here : (i : ℕ) → i < 8 → fieldAt ns′ k i ≡ getD row i 0
+  pub others : (j i : ℕ) → (j ≡ k → ⊥) → i < 8 → fieldAt ns′ j i ≡ fieldAt ns j i
+
+-- each number fits a word
+abbrev pub Small : List ℕ → Type 0
+Small ws = (r : ℕ) → getD ws r 0 < 2 ^ wordWidth
+
+-- the words of steering bits with one bit more
+pub record BitMarked (old : List ℕ) (s b : ℕ) (new : List ℕ) : Type 0 where
+  pub size : length new ≡ length old
+  pub marks : (r c : ℕ) → r ≤ 128 → c < wordWidth → wordBit (getD new r 0) c ≡ (wordBit (getD old r 0) c || (eqb s r && eqb b c))
+  pub small : Small old → Small new
+
+-- and with the address bits of a node
+pub record Marked (old : List ℕ) (x : Node) (new : List ℕ) : Type 0 where
+  pub size : length new ≡ length old
+  pub marks : (r c : ℕ) → r ≤ 128 → c < wordWidth → wordBit (getD new r 0) c ≡ (wordBit (getD old r 0) c || steersAt x r c)
+  pub small : Small old → Small new

@@ -1,0 +1,247 @@
+// One line more: each kind of line, with its refusals in order.
+use crate::bad::first_bad;
+use crate::store::Tally;
+use crate::store::flag_of;
+use crate::store::mark_steering;
+use crate::store::narrow;
+use crate::store::row_of;
+use crate::store::store_row;
+use network_line::NodeData;
+use network_line::node::bits_of;
+use network_line::node::is_outside;
+use network_path::layout::Nodes;
+use network_path::layout::Words;
+use network_path::layout::segment_len;
+use network_path::layout::wide;
+use network_words::Word;
+use network_words::words_of;
+ghost use lib.ListN.{length};
+ghost use mathlib.Core.Path.{_≡_};
+ghost use Rattle.network_line.specs.Line.{SmallNode};
+ghost use Prim.Native.Nat.{_≤_};
+ghost use Rattle.network_draft.specs.Draws.{Tame, Formed, Short, sameWord, IsThere};
+ghost use Rattle.network_draft.specs.Added.{NodeAdded, OutAdded, HoldAdded, TargetAdded, ReadAdded, WriteAdded};
+ghost use Rattle.model.specs.Network.{lenOf};
+ghost use Rattle.model.specs.Path.{nodeOf};
+ghost use Rattle.network_path.specs.Layout.{nodesOf};
+
+// Nothing refused, or a refusal's number and place.
+pub enum Refusal {
+    Nothing,
+    Refused(usize, usize),
+}
+
+// What a line leaves: a refusal or none, and the counts and targets.
+pub struct Added {
+    pub refusal: Refusal,
+    pub tally: Tally,
+}
+
+fn refuse(t: Tally, number: usize, place: usize) -> Added
+    ensures { λ r. ⌜ r .refusal ≡ Refusal.Refused number place ⌝ }
+{
+    Added {
+        refusal: Refusal::Refused(number, place),
+        tally: t,
+    }
+}
+
+// A node line: 4, 2, 3.
+pub fn add_node(nodes: &mut Nodes, steering: &mut Words, t: Tally, n: usize, x: NodeData) -> Added
+    requires { ⌜ (SmallNode x) × (Tame t) × (length (now nodes) ≡ 1032) × (length (now steering) ≡ 129) ⌝ }
+    ensures { λ r. ⌜ NodeAdded (now (nodes .entry)) (now (steering .entry)) t n x r (now (nodes .exit)) (now (steering .exit)) ⌝ }
+{
+    if t.has_out {
+        return refuse(t, 4, n);
+    }
+    if is_outside(n, x) {
+        return refuse(t, 2, n);
+    }
+    let count = t.count;
+    if 128 <= count {
+        return refuse(t, 3, n);
+    }
+    let len = bits_of(x);
+    let total = t.total;
+    if 4000 - total < len {
+        return refuse(t, 3, n);
+    }
+    let k = count + 1;
+    store_row(nodes, k, row_of(x));
+    mark_steering(steering, x);
+    let mut next = t;
+    next.count = k;
+    next.total = total + len;
+    Added {
+        refusal: Refusal::Nothing,
+        tally: next,
+    }
+}
+
+// An `out` line: 4, 2, 5.
+pub fn add_out(nodes: &Nodes, t: Tally, n: usize, k: usize) -> Added
+    requires { ⌜ (Tame t) × Formed (now nodes) (t .count) ⌝ }
+    ensures { λ r. ⌜ OutAdded (now (nodes .entry)) t n k r ⌝ }
+{
+    if t.has_out {
+        return refuse(t, 4, n);
+    }
+    let count = t.count;
+    if count < k {
+        return refuse(t, 2, n);
+    }
+    let m = first_bad(nodes, count);
+    if m != 0 {
+        return refuse(t, 5, m);
+    }
+    let mut next = t;
+    next.has_out = true;
+    next.out = k;
+    Added {
+        refusal: Refusal::Nothing,
+        tally: next,
+    }
+}
+
+// The LEN of segment s, or 0 where there is no such segment.
+fn len_of(nodes: &Nodes, count: usize, s: usize) -> usize
+    requires { ⌜ count ≤ 128 ⌝ }
+    ensures { λ r. ⌜ (r ≡ lenOf (nodeOf (nodesOf (now (nodes .entry)) count) s)) × (1 ≤ r → (1 ≤ s) × (s ≤ count)) ⌝ }
+{
+    if s < 1 {
+        return 0;
+    }
+    if count < s {
+        return 0;
+    }
+    segment_len(nodes, s)
+}
+
+// A `hold` line: 4, 6.
+pub fn add_hold<'a>(
+    nodes: &'a Nodes,
+    bits: &mut Words,
+    known: &mut Words,
+    held: &mut [u16; 129],
+    t: Tally,
+    n: usize,
+    s: usize,
+    f: &'a [u8],
+) -> Refusal
+    requires { ⌜ (Tame t) × Short (now nodes) (t .count) × (length (now bits) ≡ 129) × (length (now known) ≡ 129) × (length (now held) ≡ 129) ⌝ }
+    ensures { λ r. ⌜ HoldAdded (now (nodes .entry)) (now (bits .entry)) (now (known .entry)) (now (held .entry)) t n s (now (f .entry)) r (now (bits .exit)) (now (known .exit)) (now (held .exit)) ⌝ }
+{
+    if !t.has_out {
+        return Refusal::Refused(4, n);
+    }
+    let len = len_of(nodes, t.count, s);
+    if len == 0 {
+        return Refusal::Refused(6, n);
+    }
+    if f.len() != len {
+        return Refusal::Refused(6, n);
+    }
+    if held[s] == 1 {
+        return Refusal::Refused(6, n);
+    }
+    let w = words_of(f);
+    bits[s] = w.bits;
+    known[s] = w.known;
+    held[s] = 1;
+    Refusal::Nothing
+}
+
+// Whether segment s is a target of this word already.
+fn has_target(t: Tally, s: usize, write: bool) -> bool
+    requires { ⌜ Tame t ⌝ }
+    ensures { λ r. ⌜ IsThere t s write r ⌝ }
+{
+    let count = t.target_count;
+    let mut i: usize = 0;
+    while i < count {
+        if is_same(t.target_segment[i], t.target_write[i], s, write) {
+            return true;
+        }
+        i += 1;
+    }
+    false
+}
+
+fn is_same(segment: u16, word: u16, s: usize, write: bool) -> bool
+    ensures { λ r. ⌜ r ≡ sameWord segment word s write ⌝ }
+{
+    if wide(segment) != s {
+        return false;
+    }
+    if write {
+        return word == 1;
+    }
+    word != 1
+}
+
+// A target whose segment and bits are right: 6 for a repeat, 7, 8.
+fn add_target(steering: &Words, t: Tally, n: usize, s: usize, write: bool, bits: Word) -> Added
+    requires { ⌜ (Tame t) × (s ≤ 128) ⌝ }
+    ensures { λ r. ⌜ TargetAdded (now (steering .entry)) t n s write bits r ⌝ }
+{
+    if has_target(t, s, write) {
+        return refuse(t, 6, n);
+    }
+    if steering[s] != 0 {
+        return refuse(t, 7, n);
+    }
+    let at = t.target_count;
+    if 4 <= at {
+        return refuse(t, 8, n);
+    }
+    let mut next = t;
+    next.target_segment[at] = narrow(s);
+    next.target_write[at] = flag_of(write);
+    next.target_bits[at] = bits;
+    next.target_count = at + 1;
+    Added {
+        refusal: Refusal::Nothing,
+        tally: next,
+    }
+}
+
+// A `read` line: 4, 6, then as for every target.
+pub fn add_read<'a>(nodes: &'a Nodes, steering: &'a Words, t: Tally, n: usize, s: usize) -> Added
+    requires { ⌜ Tame t ⌝ }
+    ensures { λ r. ⌜ ReadAdded (now (nodes .entry)) (now (steering .entry)) t n s r ⌝ }
+{
+    if !t.has_out {
+        return refuse(t, 4, n);
+    }
+    let len = len_of(nodes, t.count, s);
+    if len == 0 {
+        return refuse(t, 6, n);
+    }
+    add_target(steering, t, n, s, false, 0)
+}
+
+// A `write` line: 4, 6, then as for every target.
+pub fn add_write<'a>(
+    nodes: &'a Nodes,
+    steering: &'a Words,
+    t: Tally,
+    n: usize,
+    s: usize,
+    f: &'a [u8],
+) -> Added
+    requires { ⌜ (Tame t) × Short (now nodes) (t .count) ⌝ }
+    ensures { λ r. ⌜ WriteAdded (now (nodes .entry)) (now (steering .entry)) t n s (now (f .entry)) r ⌝ }
+{
+    if !t.has_out {
+        return refuse(t, 4, n);
+    }
+    let len = len_of(nodes, t.count, s);
+    if len == 0 {
+        return refuse(t, 6, n);
+    }
+    if f.len() != len {
+        return refuse(t, 6, n);
+    }
+    let w = words_of(f);
+    add_target(steering, t, n, s, true, w.bits)
+}

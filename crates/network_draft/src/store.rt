@@ -1,0 +1,128 @@
+// The network as far as it is read: counts and targets go by value, the arrays are lent.
+use network_line::NodeData;
+use network_path::layout::Nodes;
+use network_path::layout::Words;
+use network_words::WORD_BITS;
+use network_words::Word;
+use network_words::only_bit;
+ghost use mathlib.Core.Path.{_≡_};
+ghost use mathlib.Core.Bool.{cond};
+ghost use Prim.Native.Nat.{_≤_};
+ghost use lib.ListN.{length};
+ghost use Rattle.network_line.specs.Line.{nodeFor, SmallNode};
+ghost use Rattle.network_draft.specs.Store.{Row, RowStored, Marked, BitMarked};
+
+// Counts, the node that feeds scan-out, and the targets: a target's word is 1 for `write` and 0 for `read`.
+pub struct Tally {
+    pub count: usize,
+    pub total: usize,
+    pub has_out: bool,
+    pub out: usize,
+    pub target_count: usize,
+    pub target_segment: [u16; 4],
+    pub target_write: [u16; 4],
+    pub target_bits: [Word; 4],
+}
+
+pub fn narrow(x: usize) -> u16
+    requires { ⌜ x ≤ 9999 ⌝ }
+    ensures { λ r. ⌜ r ≡ x ⌝ }
+{
+    x as u16
+}
+
+// A flag as a number.
+pub fn flag_of(flag: bool) -> u16
+    ensures { λ r. ⌜ r ≡ cond flag 1 0 ⌝ }
+{
+    if flag {
+        return 1;
+    }
+    0
+}
+
+// The eight numbers of a node.
+pub fn row_of(x: NodeData) -> [u16; 8]
+    requires { ⌜ SmallNode x ⌝ }
+    ensures { λ r. ⌜ Row (nodeFor x) r ⌝ }
+{
+    match x {
+        NodeData::Segment { from, len, shadow } => {
+            [flag_of(shadow), narrow(from), narrow(len), 0, 0, 0, 0, 0]
+        }
+        NodeData::Multiplexer {
+            seg,
+            bit,
+            count,
+            a,
+            b,
+            c,
+            d,
+        } => [
+            narrow(count),
+            narrow(seg),
+            narrow(bit),
+            0,
+            narrow(a),
+            narrow(b),
+            narrow(c),
+            narrow(d),
+        ],
+    }
+}
+
+// The eight numbers go to node k.
+pub fn store_row(nodes: &mut Nodes, k: usize, row: [u16; 8])
+    requires { ⌜ (k ≤ 128) × (length (now nodes) ≡ 1032) × (length row ≡ 8) ⌝ }
+    ensures { λ _. ⌜ RowStored (now (nodes .entry)) k row (now (nodes .exit)) ⌝ }
+{
+    let base = k * 8;
+    let mut i: usize = 0;
+    while i < 8 {
+        nodes[base + i] = row[i];
+        i += 1;
+    }
+}
+
+// The address bits of a node are marked in its segment's word of steering bits.
+pub fn mark_steering(steering: &mut Words, x: NodeData)
+    requires { ⌜ (SmallNode x) × (length (now steering) ≡ 129) ⌝ }
+    ensures { λ _. ⌜ Marked (now (steering .entry)) (nodeFor x) (now (steering .exit)) ⌝ }
+{
+    match x {
+        NodeData::Segment {
+            from: _,
+            len: _,
+            shadow: _,
+        } => {}
+        NodeData::Multiplexer {
+            seg,
+            bit,
+            count,
+            a: _,
+            b: _,
+            c: _,
+            d: _,
+        } => {
+            mark_bit(steering, seg, bit);
+            if 2 < count {
+                mark_bit(steering, seg, bit + 1);
+            }
+        }
+    }
+}
+
+// Bit b of segment s is marked, if there are such a segment and such a bit.
+pub fn mark_bit(steering: &mut Words, s: usize, b: usize)
+    requires { ⌜ length (now steering) ≡ 129 ⌝ }
+    ensures { λ _. ⌜ BitMarked (now (steering .entry)) s b (now (steering .exit)) ⌝ }
+{
+    if 128 < s {
+        return;
+    }
+    if WORD_BITS <= b {
+        return;
+    }
+    let w = steering[s];
+    steering[s] = w | only_bit(b);
+}

@@ -1,0 +1,112 @@
+-- `path::walk::walk` meets its contract. The measure is the node's number.
+-- Assumes nothing.
+use mathlib.Core.Path.{sym, _∙_}
+use Prim.Native.Nat.{ℕ, _+_, _<_}
+use native.Mathlib.Nat.{le-refl}
+use native.Mathlib.Omega.{arith}
+use borrow.Author.Needs.{needs}
+use borrow.Fn.Kinds.{In}
+use borrow.Fn.PlainCycle.{Measures, is, falls, and}
+use lib.ListN.{set}
+use Rattle.network_path.proofs.WalkLaws.{walks-end, walks-stop, Onward, onward-from, onward-input}
+use Rattle.network_path.proofs.walk.walk.Reads as walk
+use Rattle.network_path.proofs.walk.walk.Kinds as walk-kinds
+use Rattle.network_path.proofs.walk.+walk.Lts-walk as walk-lts
+use Rattle.network_path.proofs.walk.step_from.Reads as step-from-reads
+use Rattle.network_path.proofs.walk.+walk.{statement}
+use Rattle.network_path.proofs.walk.+walk.Tie.{close}
+
+abbrev μ-walk : Measures 2 walk-kinds.ps ℕ
+μ-walk κs a = a .1 .1 .1 .0
+
+abbrev walk-at : ℕ → In 2 walk-kinds.ps
+walk-at t = and 2 walk-kinds.ps (is 2 walk-kinds.ps μ-walk t) walk.Pre
+
+abbrev walk-below : ℕ → In 2 walk-kinds.ps
+walk-below t = and 2 walk-kinds.ps (falls 2 walk-kinds.ps _<_ μ-walk t) walk.Pre
+
+abbrev called : ℕ → walk-lts.Claims
+called t = (step-from-reads.Asked, step-from-reads.Learnt, walk-below t, walk.Post)
+
+module _ (t : ℕ) where
+  returns : walk-lts.Need-returns (called t) (walk-at t) walk.Post
+  returns c = walks-end _ _ _ _ _ _ (c .if1 .taken) (omega (arith, c .before .pre .1 .room))
+
+  step-from-requires : walk-lts.Need-step-from-requires (called t) (walk-at t) walk.Post
+  step-from-requires c κs = let s = c .before in (omega (arith, s .pre .1 .room), s .pre .1 .safe (s .args .at) (omega (arith, c .if1 .left)) (le-refl (s .args .at)))
+
+  enum-known-to : walk-lts.Need-enum-known-to (called t) (walk-at t) walk.Post
+  enum-known-to c = search needs
+
+  -- past a segment
+  from : (c : walk-lts.After-known-told (called t) (walk-at t) walk.Post)
+      → let s = c .before .before .before .before .before .args in
+      Onward (s .nodes .now) (s .bits .now) (s .known .now) (s .at) (s .way .now) (s .met) (c .before .to .given .0 .0) (set (s .way .now) (s .met) (s .at)) (s .met + 1)
+  from c =
+      onward-from _ _ _ _ _ _ (c .before .before .before .before .before .pre .1) (c .before .before .before .before .if1 .left) _
+      (sym (c .before .before .before .step-from .ensures) ∙ c .before .to .given .1)
+
+  cast-way : walk-lts.Need-cast-way (called t) (walk-at t) walk.Post
+  cast-way c = omega (arith, c .before .before .before .before .before .pre .1 .room)
+
+  mul-way : walk-lts.Need-mul-way (called t) (walk-at t) walk.Post
+  mul-way c = omega (arith, c .before .before .before .before .before .pre .1 .room)
+
+  element-write-way : walk-lts.Need-element-write-way (called t) (walk-at t) walk.Post
+  element-write-way c = omega (arith, c .before .before .before .before .before .pre .1 .room, c .before .before .before .before .if1 .left)
+
+  add-walk : walk-lts.Need-add-walk (called t) (walk-at t) walk.Post
+  add-walk c = omega (arith, c .before .before .before .before .before .before .pre .1 .room)
+
+  walk-requires : walk-lts.Need-walk-requires (called t) (walk-at t) walk.Post
+  walk-requires c κs = let o = from (c .before) in (omega (arith, c .before .before .before .before .before .before .pre .0, o .below), o .asks)
+
+  enum-known-to-2 : walk-lts.Need-enum-known-to-2 (called t) (walk-at t) walk.Post
+  enum-known-to-2 c = search needs
+
+  -- past a multiplexer
+  input : (c : walk-lts.After-known-told2 (called t) (walk-at t) walk.Post)
+      → let s = c .before .before .before .before .before .args in
+      Onward (s .nodes .now) (s .bits .now) (s .known .now) (s .at) (s .way .now) (s .met) (c .before .to2 .given .0 .0) (s .way .now) (s .met)
+  input c =
+      onward-input _ _ _ _ _ _ (c .before .before .before .before .before .pre .1) (c .before .before .before .before .if1 .left) _
+      (sym (c .before .before .before .step-from .ensures) ∙ c .before .to2 .given .1)
+
+  walk-requires-2 : walk-lts.Need-walk-requires-2 (called t) (walk-at t) walk.Post
+  walk-requires-2 c κs = let o = input (c .before) in (omega (arith, c .before .before .before .before .before .before .pre .0, o .below), o .asks)
+
+  enum-told : walk-lts.Need-enum-told (called t) (walk-at t) walk.Post
+  enum-told c = search needs
+
+  add-result : walk-lts.Need-add-result (called t) (walk-at t) walk.Post
+  add-result c = omega (arith, c .before .before .before .before .pre .1 .room)
+
+  returns-2 : walk-lts.Need-returns-2 (called t) (walk-at t) walk.Post
+  returns-2 c = from (c .before .before) .then _ _ (c .walk .ensures)
+
+  returns-3 : walk-lts.Need-returns-3 (called t) (walk-at t) walk.Post
+  returns-3 c = input (c .before .before) .then _ _ (c .walk2 .ensures)
+
+  returns-4 : walk-lts.Need-returns-4 (called t) (walk-at t) walk.Post
+  returns-4 c =
+      walks-stop _ _ _ _ _ _ (c .before .before .before .before .pre .1) (c .before .before .before .if1 .left) (sym (c .before .before .step-from .ensures) ∙ c .enum-told .given .1)
+
+pub +walk-spec : {M : Type 1} → statement M
++walk-spec = close μ-walk λ t. walk-lts.spec (called t)
+    (walk-at t)
+    walk.Post
+    (returns t)
+    (step-from-requires t)
+    (enum-known-to t)
+    (cast-way t)
+    (mul-way t)
+    (element-write-way t)
+    (add-walk t)
+    (walk-requires t)
+    (enum-known-to-2 t)
+    (walk-requires-2 t)
+    (enum-told t)
+    (add-result t)
+    (returns-2 t)
+    (returns-3 t)
+    (returns-4 t)

@@ -1,0 +1,124 @@
+-- What the answers of the walk, the places and the load say, in the terms of the model.
+-- Assumes nothing.
+use mathlib.Core.Path.{_≡_}
+use mathlib.Core.Bool.{cond, false}
+use mathlib.Core.Option.{Option, none, some}
+use mathlib.Core.List.{List, map}
+use Prim.Native.Nat.{ℕ, suc, _+_, _-_, _≤_}
+use lib.Dec.{leb}
+use lib.ListN.{length, take, drop}
+use Rattle.model.specs.Text.{Trit}
+use Rattle.model.specs.Network.{Node, segment, multiplexer}
+use Rattle.model.specs.Path.{Walk, path, stop, valueOf, pick, address, walkFrom, pathLength, csu}
+use Rattle.network_words.specs.Words.{tritAt, byteBit}
+use Rattle.network_path.specs.Layout.{nodeAt, lookIn, scanPath, configOf, Way, Safe}
+use Rattle.network_path.specs.declared.walk.Address.{Address}
+use Rattle.network_path.specs.declared.walk.Address.the-variants.{Input as AtInput, Unknown}
+use Rattle.network_path.specs.declared.walk.Step.{Step}
+use Rattle.network_path.specs.declared.walk.Step.the-variants.{Segment, Input, Stop}
+use Rattle.network_path.specs.declared.walk.Walked.{Walked}
+use Rattle.network_path.specs.declared.walk.Walked.the-variants.{Path, Stop as Stopped}
+use Rattle.network_path.specs.declared.places.Place.{Place}
+use Rattle.network_path.specs.declared.places.Place.the-variants.{At, Off}
+
+-- ---- one step
+
+-- the address that an answer gives
+abbrev pub addressed : Address → Option ℕ
+addressed (AtInput i) = some i
+addressed Unknown = none
+
+-- the address in a segment's two words: the model's `address`, by the count of inputs
+abbrev pub addressIn : ℕ → ℕ → ℕ → ℕ → Option ℕ
+addressIn bits known b inputs =
+    cond (leb inputs 2) (valueOf (tritAt bits known b) (some false)) (valueOf (tritAt bits known b) (tritAt bits known (suc b)))
+
+abbrev pub stepTo : Option ℕ → Step
+stepTo none = Stop
+stepTo (some m) = Input m
+
+-- from a node: "a segment leads to FROM, a multiplexer to the addressed input"
+abbrev pub stepOf : (ℕ → ℕ → Trit) → Node → Step
+stepOf look (segment from len shadow) = Segment from
+stepOf look (multiplexer s b ins) = stepTo (pick ins (address look s b ins))
+
+-- ---- the walk from a node, with the segments met so far at the front of the lent memory
+
+-- what the walk asks: room for a segment for each node number
+pub record Walkable (ns : List ℕ) (at : ℕ) (way : List ℕ) (met : ℕ) : Type 0 where
+  pub safe : Safe ns at
+  pub size : length way ≡ 128
+  pub room : met + at ≤ 128
+
+-- the segments that an answer adds
+abbrev pub added : List ℕ → ℕ → ℕ → List ℕ
+added way met n = take (n - met) (drop met way)
+
+-- what an answer says of the walk
+abbrev pub toldFrom : List ℕ → List ℕ → ℕ → Walked → Walk
+toldFrom ns way met (Path n) = path (scanPath ns (added way met n))
+toldFrom ns way met (Stopped m) = stop m
+
+-- the segments added have falling numbers from this node on
+abbrev pub FallsFrom : List ℕ → List ℕ → ℕ → ℕ → Walked → Type 0
+FallsFrom ns way at met (Path n) = (met ≤ n) × (n ≤ met + at) × Way ns (suc at) (added way met n)
+FallsFrom ns way at met (Stopped m) = Unit {0}
+
+-- the answer in one number: the count of segments met, or 128 and the number of the multiplexer that stops the walk
+abbrev pub walkedBy : ℕ → Walked
+walkedBy r = cond (leb r 128) (Path r) (Stopped (r - 128))
+
+-- the answer r, with `old` in the lent memory before and `way` in it after
+pub record Walks (ns bits known : List ℕ) (at : ℕ) (old : List ℕ) (met : ℕ) (r : Walked) (way : List ℕ) : Type 0 where
+  pub tells : (k : ℕ) → at ≤ k → walkFrom (nodeAt ns) (lookIn bits known) k at ≡ toldFrom ns way met r
+  pub falls : FallsFrom ns way at met r
+  pub size : length way ≡ length old
+  pub kept : take met way ≡ take met old
+
+-- ---- the whole walk
+
+-- the first n numbers of the lent memory are a path
+pub record HoldsPath (ns way : List ℕ) (n : ℕ) : Type 0 where
+  pub size : length way ≡ 128
+  pub count : n ≤ 128
+  pub falls : Way ns 129 (take n way)
+
+-- what an answer says of the walk, and of the lent memory
+abbrev pub told : List ℕ → List ℕ → Walked → Walk
+told ns way (Path n) = path (scanPath ns (take n way))
+told ns way (Stopped m) = stop m
+
+abbrev pub WalkHeld : List ℕ → List ℕ → Walked → Type 0
+WalkHeld ns way (Path n) = HoldsPath ns way n
+WalkHeld ns way (Stopped m) = Unit {0}
+
+-- the answer r, with `way` in the lent memory after
+pub record Found (ns bits known : List ℕ) (out : ℕ) (r : Walked) (way : List ℕ) : Type 0 where
+  pub tells : walkFrom (nodeAt ns) (lookIn bits known) out out ≡ told ns way r
+  pub holds : WalkHeld ns way r
+  pub size : length way ≡ 128
+
+-- ---- places
+
+-- the place that an answer gives
+abbrev pub placed : Place → Option ℕ
+placed (At p) = some p
+placed Off = none
+
+-- ---- the load
+
+-- a word for each node number from 0 to 128
+pub record ConfigSized (bits known : List ℕ) : Type 0 where
+  pub words : length bits ≡ 129
+  pub marks : length known ≡ 129
+
+-- what the load asks: a path, and a scan-in bit for each of its places
+pub record Loadable (ns way : List ℕ) (n : ℕ) (scan bits known : List ℕ) : Type 0 where
+  pub holds : HoldsPath ns way n
+  pub as-long : length scan ≡ pathLength (scanPath ns (take n way))
+  pub sized : ConfigSized bits known
+
+-- the words after the load: the configuration of any count of nodes is the one after the operation
+pub record Loads (ns way : List ℕ) (n : ℕ) (scan bits known bits′ known′ : List ℕ) : Type 0 where
+  pub loads : (count : ℕ) → configOf ns bits′ known′ count ≡ csu (scanPath ns (take n way)) (map byteBit scan) (configOf ns bits known count)
+  pub sized : ConfigSized bits′ known′

@@ -1,0 +1,200 @@
+-- Laws of the whole text: the empty arrays draw no lines, and what each ending says of `readNetwork`.
+-- Assumes nothing.
+use mathlib.Core.Path.{_≡_, refl, sym, ap, _∙_, subst}
+use mathlib.Core.Bool.{Bool, true, false}
+use mathlib.Core.Option.{some}
+use mathlib.Core.List.{List}
+use Prim.Native.Nat.{ℕ, _≤_, _<_}
+use native.Mathlib.Omega.{arith}
+use lib.ListN.{length, getD, take, replicate, length-replicate}
+use lib.Dec.{eqb}
+use borrow.Author.Tests.{lt-ltb, le-ltb}
+use Rattle.model.specs.Result.{Result, ok, refused, refuseIf}
+use Rattle.model.specs.Text.{Bytes, parts, lineEnd}
+use Rattle.model.specs.Network.{Node, Config, Target, Network as ModelNetwork, totalBits, steers, heldOr, startOf}
+use Rattle.model.specs.Path.{Walk, walk, pathOf, pathIn, pathLength}
+use Rattle.model.specs.NetworkText.{Draft, noLines, isHeld, networkOf, ifStarts, finish, readLines, readNetwork}
+use Rattle.model.proofs.Accepted.{draft-formed}
+use Rattle.model.proofs.Reading.{sound-start}
+use Rattle.network_words.specs.Words.{wordWidth, wordBit}
+use Rattle.network_path.specs.Layout.{nodesOf, configOf, scanPath}
+use Rattle.network_path.specs.Answers.{Found, Walkable, told}
+use Rattle.network_path.specs.declared.walk.Walked.{Walked}
+use Rattle.network_path.specs.declared.walk.Walked.the-variants.{Path, Stop as Stopped}
+use Rattle.network_words.proofs.WordLaws.{zero-bit}
+use Rattle.network_path.specs.Stored.{Stored}
+use Rattle.network_path.proofs.StoredLaws.{stored-walkable, found-walk}
+use Rattle.network_draft.specs.declared.store.Tally.{Tally}
+use Rattle.network_draft.specs.declared.add.Refusal.the-variants.{Nothing, Refused}
+use Rattle.network_reader.specs.declared.reader.Lines.{Lines}
+use Rattle.network_reader.specs.declared.reader.Ending.{Ending}
+use Rattle.network_reader.specs.declared.reader.Ending.the-variants.{Refused as EndRefused, Recorded}
+use Rattle.network_reader.specs.declared.reader.Network.{Network}
+use Rattle.network_reader.specs.declared.reader.Verdict.the-variants.{Accepted, Refused as Rejected}
+use Rattle.network_reader.specs.declared.reader.Reading.{Reading}
+use Rattle.network_draft.specs.Draws.{feedsOf, Short, Draws, emptyTally}
+use Rattle.network_reader.specs.Start.{StartFilled}
+use Rattle.network_reader.specs.Counts.{countFrom}
+use Rattle.network_reader.specs.Reads.{LinesAre, networkOf as recorded, recordOf, EndsAs, Begun, StartWalked, finishOf, readingBy, noNetwork, FilledIf, IsReading}
+use Rattle.model.proofs.Lists.{zero-at}
+use Rattle.network_draft.proofs.Drawing.{drawn-out, drawn-words}
+use Rattle.network_reader.proofs.Counting.{counts-steering}
+use Rattle.network_reader.proofs.Starting.{start-config}
+
+-- ---- no lines
+
+pub draws-none : Draws (replicate 1032 0) (replicate 129 0) (replicate 129 0) (replicate 129 0) (replicate 129 0) emptyTally noLines 1
+unfolding totalBits steers isHeld heldOr
+draws-none = record {
+  sized = record {
+    nodes = length-replicate {A = ℕ} 1032 0;
+    bit-words = length-replicate {A = ℕ} 129 0;
+    known-words = length-replicate {A = ℕ} 129 0;
+    steering-words = length-replicate {A = ℕ} 129 0;
+    held-flags = length-replicate {A = ℕ} 129 0;
+  };
+  tame = record { nodes-fit = omega arith; bits-fit = omega arith; targets-fit = omega arith; segments = refl; words = refl; bits = refl };
+  nodes-are = refl;
+  total-is = refl;
+  out-is = refl;
+  targets-are = refl;
+  steering-is = λ s b l m. ap (λ (x : ℕ). wordBit x b) (zero-at 129 s) ∙ zero-bit b;
+  steering-small = λ r. rw (zero-at 129 r) (omega arith);
+  held-is = λ s l. ap (λ (x : ℕ). eqb x 1) (zero-at 129 s);
+  start-is = λ s l other. rw (zero-at 129 s) refl;
+  sound = sound-start;
+}
+
+-- ---- the endings
+
+-- a refusal
+pub reading-refused : (t : Bytes) (r : Reading) (number place : ℕ) → (r .verdict ≡ Rejected number place) × (r .network ≡ noNetwork) → readNetwork t ≡ refused number place → IsReading t r
+reading-refused t r number place e q = record {
+  reads = ap (λ (v : _). readingBy v (r .network)) (e .0) ∙ sym q;
+  filled = subst (λ (v : _). FilledIf v (r .network)) (sym (e .0)) (e .1);
+}
+
+module _ (t : Bytes) where
+  pub too-long : 16384 < length t → readNetwork t ≡ refused 3 0
+  unfolding readNetwork
+  too-long l = ap (λ (b : Bool). refuseIf b 3 0 (finishOf (readLines noLines 1 (parts lineEnd t)))) (lt-ltb 16384 (length t) l)
+
+  module _ (short : length t ≤ 16384) where
+    of-lines : readNetwork t ≡ finishOf (readLines noLines 1 (parts lineEnd t))
+    unfolding readNetwork
+    of-lines = ap (λ (b : Bool). refuseIf b 3 0 (finishOf (readLines noLines 1 (parts lineEnd t)))) (le-ltb 16384 (length t) short)
+
+    module _ (ns bits known steering : List ℕ) (y : Tally) (r : Ending) (ends : EndsAs ns bits known steering y (finishOf (readLines noLines 1 (parts lineEnd t))) r) where
+      pub ends-refused : (number place : ℕ) → r ≡ EndRefused number place → readNetwork t ≡ refused number place
+      ends-refused number place e = of-lines ∙ subst (EndsAs ns bits known steering y (finishOf (readLines noLines 1 (parts lineEnd t)))) e ends
+
+      pub ends-recorded : (count len : ℕ) → r ≡ Recorded count len → IsReading t record { verdict = Accepted; network = recordOf ns bits known steering y count len }
+      ends-recorded count len e =
+          let f = subst (EndsAs ns bits known steering y (finishOf (readLines noLines 1 (parts lineEnd t)))) e ends in
+          record { reads = sym (of-lines ∙ f .0); filled = f .1 }
+
+-- ---- behind the lines
+
+module _ (ns bits known steering held : List ℕ) (r : Lines) (a : Result (ℕ × Draft)) (lines : LinesAre ns bits known steering held a r) where
+  pub lines-rejected : (number place : ℕ) → r .refusal ≡ Refused number place → finishOf a ≡ refused number place
+  lines-rejected number place e = go a lines
+    where
+      go : (a : Result (ℕ × Draft)) → LinesAre ns bits known steering held a r → finishOf a ≡ refused number place
+      go (ok nd) f = absurd (let z : Nothing ≡ Refused number place = sym (f .0) ∙ e in let y : _≡_ {A = ℕ} 0 1 = cc in omega arith)
+      go (refused m p) f = let z : Refused m p ≡ Refused number place = sym f ∙ e in let x : m ≡ number = cc in let y : p ≡ place = cc in rw (x, y)
+
+  -- the lines are read
+  pub record Read : Type 0 where
+    pub draft : Draft
+    pub drawn : Draws ns bits known steering held (r .tally) draft (r .next)
+    pub finishes : finishOf a ≡ finish (r .next) draft (draft .feeds)
+
+  pub lines-read : r .refusal ≡ Nothing → Read
+  lines-read e = go a refl lines
+    where
+      go : (b : Result (ℕ × Draft)) → a ≡ b → LinesAre ns bits known steering held b r → Read
+      go (ok nd) q f = record { draft = nd .1; drawn = rw (f .1) (f .2); finishes = ap finishOf q ∙ rw (f .1) refl }
+      go (refused m p) q f = absurd (let z : Nothing ≡ Refused m p = sym e ∙ f in let y : _≡_ {A = ℕ} 0 1 = cc in omega arith)
+
+  module _ (w : Read) where
+    -- without an `out` line
+    pub no-out-line : r .tally .«has_out» ≡ false → finishOf a ≡ refused 4 (r .next)
+    no-out-line e = w .finishes ∙ ap (finish (r .next) (w .draft)) (sym (w .drawn .out-is) ∙ ap (λ (b : Bool). feedsOf b (r .tally .out)) e)
+
+    module _ (e : r .tally .«has_out» ≡ true) (bits′ known′ : List ℕ) (f : StartFilled bits known steering held (r .tally .count) bits′ known′) where
+      pub begun : Begun ns bits′ known′ steering (r .tally) (w .draft) (r .next)
+      begun = record { bits₀ = bits; known₀ = known; held = held; drawn = w .drawn; fed = e; filled = f }
+
+      pub start-ends : (x : Ending) → StartWalked ns bits′ known′ steering (r .tally) x → EndsAs ns bits′ known′ steering (r .tally) (finishOf a) x
+      start-ends x s = subst (λ (z : Result ModelNetwork). EndsAs ns bits′ known′ steering (r .tally) z x) (sym (w .finishes)) (s (w .draft) (r .next) begun)
+
+-- ---- the start, for a text with an `out` line
+
+module _ (ns bits known steering : List ℕ) (y : Tally) (d : Draft) (n : ℕ) (b : Begun ns bits known steering y d n) where
+  abbrev w : Draws ns (b .bits₀) (b .known₀) steering (b .held) y d n
+  w = b .drawn
+
+  fed : d .feeds ≡ some (y .out)
+  fed = sym (w .out-is) ∙ ap (λ (x : Bool). feedsOf x (y .out)) (b .fed)
+
+  -- the arrays hold the network of the draft
+  stored : Stored (networkOf d (y .out)) ns (y .count) (y .out)
+  stored = record { nodes = sym (w .nodes-are); feeds = refl; most = w .tame .nodes-fit; formed = draft-formed d n (y .out) (w .sound) fed }
+
+  -- what the calls for the start ask
+  pub start-walkable : (way : List ℕ) → length way ≡ 128 → Walkable ns (y .out) way 0
+  start-walkable = stored-walkable (networkOf d (y .out)) ns (y .count) (y .out) stored
+
+  pub start-short : (y .count ≤ 128) × Short ns (y .count)
+  start-short = (w .tame .nodes-fit, drawn-words ns (b .bits₀) (b .known₀) steering (b .held) y d n w)
+
+  start-is : configOf ns bits known (y .count) ≡ startOf (d .nodes) (d .holds)
+  start-is =
+      start-config ns (b .bits₀) (b .known₀) steering (b .held) y d n w (drawn-out ns (b .bits₀) (b .known₀) steering (b .held) y d n w ∙ b .fed) bits known (b .filled)
+
+  module _ (r : Walked) (way : List ℕ) (found : Found ns bits known (y .out) r way) where
+    start-walk : walk (networkOf d (y .out)) (networkOf d (y .out) .start) ≡ told ns way r
+    start-walk =
+        ap (walk (networkOf d (y .out))) (sym start-is)
+        ∙ found-walk (networkOf d (y .out)) ns (y .count) (y .out) stored bits known r way found
+
+    finished : finish n d (d .feeds) ≡ ifStarts (networkOf d (y .out)) (told ns way r)
+    finished = ap (finish n d) fed ∙ ap (ifStarts (networkOf d (y .out))) start-walk
+
+    -- "start setting is not valid"
+    pub start-stops : (m : ℕ) → r ≡ Stopped m → finish n d (d .feeds) ≡ refused 9 m
+    start-stops m e = finished ∙ ap (λ (x : Walked). ifStarts (networkOf d (y .out)) (told ns way x)) e
+
+    module _ (count len : ℕ) where
+      abbrev Written : Network
+      Written = recordOf ns bits known steering y count len
+
+      recorded-is : networkOf d (y .out) ≡ recorded Written
+      recorded-is =
+          ap (λ (c : Config). record { nodes = d .nodes; out = y .out; start = c; targets = d .targets }) (sym start-is)
+          ∙ ap (λ (l : List Node). record { nodes = l; out = y .out; start = configOf ns bits known (y .count); targets = d .targets }) (sym (w .nodes-are))
+          ∙ ap (λ (l : List Target). record { nodes = nodesOf ns (y .count); out = y .out; start = configOf ns bits known (y .count); targets = l }) (sym (w .targets-are))
+
+      start-found : (k : ℕ) → r ≡ Path k → finish n d (d .feeds) ≡ ok (recorded Written)
+      start-found k e = finished ∙ ap (λ (x : Walked). ifStarts (networkOf d (y .out)) (told ns way x)) e ∙ ap ok recorded-is
+
+      same-steering : (s b : ℕ) → s ≤ 128 → b < wordWidth → wordBit (getD steering s 0) b ≡ steers (nodesOf ns (y .count)) s b
+      same-steering s b l m = w .steering-is s b l m ∙ ap (λ (x : List Node). steers x s b) (sym (w .nodes-are))
+
+      pub start-recorded : (k : ℕ) → r ≡ Path k → count ≡ countFrom ns steering 1 (y .count) → len ≡ pathLength (scanPath ns (take k way))
+          → EndsAs ns bits known steering y (finish n d (d .feeds)) (Recorded count len)
+      start-recorded k e a l = (
+        start-found k e,
+        record {
+          nodes-size = w .sized .nodes;
+          bits-size = b .filled .bits-size ∙ w .sized .bit-words;
+          known-size = b .filled .known-size ∙ w .sized .known-words;
+          steering-size = w .sized .steering-words;
+          tame = w .tame;
+          steering-is = same-steering;
+          steering-small = w .steering-small;
+          totals = w .total-is ∙ ap totalBits (sym (w .nodes-are));
+          counted = a ∙ counts-steering ns steering (y .count) (start-short .0) (start-short .1) same-steering;
+          start-long = l ∙ ap (λ (x : Walk). pathLength (pathOf x)) (sym (start-walk ∙ ap (told ns way) e)) ∙ ap (λ (net : ModelNetwork). pathLength (pathIn net (net .start))) recorded-is;
+        },
+      )

@@ -1,0 +1,87 @@
+-- What a reading says for its callers: the record of an accepted text holds the network, and its targets are segments of it.
+-- Assumes nothing.
+use mathlib.Core.Path.{_≡_, refl, sym, ap, _∙_, subst}
+use mathlib.Core.Bool.{true}
+use mathlib.Core.List.{List, List·Memᴰ, List·Memᴰ·head, List·Memᴰ·tail}
+use Prim.Native.Nat.{ℕ, zero, suc, _+_, _≤_, _<_}
+use native.Mathlib.Omega.{arith}
+use native.Mathlib.Decide.{decLt}
+use native.Mathlib.Nat.{not-suc-le-zero}
+use lib.ListN.{getD}
+use Rattle.model.specs.Result.{ok, refused}
+use Rattle.model.specs.Text.{Bytes}
+use Rattle.model.specs.Network.{Node, at, noNode, isSegment, lenOf, tabulate}
+use Rattle.model.specs.NetworkText.{readNetwork}
+use Rattle.model.proofs.Lists.{true-false, length-tabulate}
+use Rattle.model.proofs.Accepted.{Accepted, accepted}
+use Rattle.network_words.specs.Words.{wordWidth}
+use Rattle.network_path.specs.Layout.{nodeAt, nodesOf}
+use Rattle.network_path.proofs.ConfigLaws.{good-most}
+use Rattle.network_path.specs.Stored.{Stored}
+use Rattle.network_reader.specs.declared.reader.Network.{Network}
+use Rattle.network_reader.specs.declared.reader.Reading.{Reading}
+use Rattle.network_reader.specs.declared.reader.Verdict.{Verdict}
+use Rattle.network_reader.specs.declared.reader.Verdict.the-variants.{Accepted as Passed, Refused as Rejected}
+use Rattle.network_draft.specs.Draws.{targetAt}
+use Rattle.network_reader.specs.Reads.{networkOf, readingBy, Filled, FilledIf, IsReading}
+use Rattle.network_draft.proofs.BadAddresses.{node-in, node-zero, node-beyond}
+use Rattle.network_draft.proofs.TargetLaws.{fits-segment, target-names}
+
+pub record Recorded (t : Bytes) (r : Network) : Type 0 where
+  pub reads : readNetwork t ≡ ok (networkOf r)
+  pub filled : Filled r
+  pub net : Accepted (networkOf r)
+  pub stored : Stored (networkOf r) (r .nodes) (r .tally .count) (r .tally .out)
+
+module _ (t : Bytes) (r : Reading) (is : IsReading t r) where
+  pub reading-rejected : (number place : ℕ) → r .verdict ≡ Rejected number place → readNetwork t ≡ refused number place
+  reading-rejected number place e = sym (is .reads) ∙ ap (λ (v : Verdict). readingBy v (r .network)) e
+
+  pub reading-recorded : r .verdict ≡ Passed → Recorded t (r .network)
+  reading-recorded e =
+      let q : readNetwork t ≡ ok (networkOf (r .network)) = sym (is .reads) ∙ ap (λ (v : Verdict). readingBy v (r .network)) e in
+      let f : Filled (r .network) = subst (λ (v : Verdict). FilledIf v (r .network)) e (is .filled) in
+      let a = accepted t (networkOf (r .network)) q in
+      record { reads = q; filled = f; net = a; stored = record { nodes = refl; feeds = refl; most = f .tame .nodes-fit; formed = a .wf } }
+
+-- ---- targets
+
+tabulate-in : {A : Type 0} (f : ℕ → A) (i n j : ℕ) → j < n → List·Memᴰ (f (i + j)) (tabulate f i n)
+tabulate-in f i zero j l = absurd (not-suc-le-zero l)
+tabulate-in f i (suc n) zero l = List·Memᴰ·head (ap f (let z : i + 0 ≡ i = omega arith in z))
+tabulate-in f i (suc n) (suc j) l =
+    let z : suc i + j ≡ i + suc j = omega arith in
+    List·Memᴰ·tail (subst (λ (k : ℕ). List·Memᴰ (f k) (tabulate f (suc i) n)) z (tabulate-in f (suc i) n j (omega arith)))
+
+pub record TargetSegment (ns : List ℕ) (count s : ℕ) : Type 0 where
+  pub least : 1 ≤ s
+  pub most : s ≤ count
+  pub short : lenOf (nodeAt ns s) ≤ wordWidth
+
+module _ (t : Bytes) (r : Network) (c : Recorded t r) where
+  abbrev ns : List Node
+  ns = nodesOf (r .nodes) (r .tally .count)
+
+  short-node : (s : ℕ) → 1 ≤ s → s ≤ r .tally .count → lenOf (nodeAt (r .nodes) s) ≤ wordWidth
+  short-node zero a b = absurd (omega arith)
+  short-node (suc n) a b =
+      subst (λ (x : Node). lenOf x ≤ wordWidth) (node-in (r .nodes) (r .tally .count) (suc n) a b)
+      (good-most ns (suc n) (getD ns n noNode) (c .net .wf .backwards n (omega (arith, length-tabulate (nodeAt (r .nodes)) 1 (r .tally .count)))))
+
+  target-is : (i : ℕ) → i < r .tally .«target_count» → isSegment (at ns (getD (r .tally .«target_segment») i 0) noNode) ≡ true
+  target-is i lt =
+      let m = tabulate-in (targetAt (r .nodes) (r .tally)) 0 (r .tally .«target_count») i lt in
+      let z : 0 + i ≡ i = omega arith in
+      let f = fits-segment ns (targetAt (r .nodes) (r .tally) (0 + i)) (c .net .targets-fit .fits _ m) in
+      ap (λ (k : ℕ). isSegment (at ns k noNode)) (ap (λ (k : ℕ). getD (r .tally .«target_segment») k 0) (sym z) ∙ sym (target-names (r .nodes) (r .tally) (0 + i))) ∙ f
+
+  pub target-segment : (i : ℕ) → i < r .tally .«target_count» → TargetSegment (r .nodes) (r .tally .count) (getD (r .tally .«target_segment») i 0)
+  target-segment i lt = by (getD (r .tally .«target_segment») i 0) (target-is i lt)
+    where
+      by : (s : ℕ) → isSegment (at ns s noNode) ≡ true → TargetSegment (r .nodes) (r .tally .count) s
+      by s e = go (decLt s 1) (decLt (r .tally .count) s)
+        where
+          go : Dec (s < 1) → Dec (r .tally .count < s) → TargetSegment (r .nodes) (r .tally .count) s
+          go (yes h) d = absurd (true-false (sym e ∙ ap isSegment (node-zero (r .nodes) (r .tally .count) s h)))
+          go (no h) (yes l) = absurd (true-false (sym e ∙ ap isSegment (node-beyond (r .nodes) (r .tally .count) s l)))
+          go (no h) (no l) = record { least = omega arith; most = omega arith; short = short-node s (omega arith) (omega arith) }

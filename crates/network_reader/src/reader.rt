@@ -1,0 +1,263 @@
+// The reader: a network text to the record, or one refusal.
+use crate::counts::steering_count;
+use crate::start::fill_start;
+use network_draft::add::Added;
+use network_draft::add::Refusal;
+use network_draft::add::add_hold;
+use network_draft::add::add_node;
+use network_draft::add::add_out;
+use network_draft::add::add_read;
+use network_draft::add::add_write;
+use network_draft::store::Tally;
+use network_line::Entry;
+use network_line::parse;
+use network_path::layout::Nodes;
+use network_path::layout::Words;
+use network_path::places::path_length;
+use network_path::walk::Walked;
+use network_path::walk::find_path;
+ghost use mathlib.Core.Path.{_≡_};
+ghost use Prim.Native.Nat.{ℕ, _≤_};
+ghost use lib.ListN.{length};
+ghost use Rattle.model.specs.Result.{Result};
+ghost use Rattle.model.specs.NetworkText.{Draft, noLines};
+ghost use Rattle.network_draft.specs.Draws.{Draws, Drafted, emptyTally};
+ghost use Rattle.network_reader.specs.Reads.{LineAdded, LinesAre, LinesRead, Begun, StartWalked, LinesFinished, noNetwork, IsReading};
+
+// The record of a network; its last two counts are of the distinct steering bits and of the bits of the start's path.
+pub struct Network {
+    pub nodes: Nodes,
+    pub bits: Words,
+    pub known: Words,
+    pub steering: Words,
+    pub tally: Tally,
+    pub steering_count: usize,
+    pub start_length: usize,
+}
+
+pub enum Verdict {
+    Accepted,
+    Refused(usize, usize),
+}
+
+// The verdict on a text, with the record beside it where the text is accepted.
+pub struct Reading {
+    pub verdict: Verdict,
+    pub network: Network,
+}
+
+// What the lines of a text leave: a refusal or none, the counts and targets, and the number behind the last line.
+pub struct Lines {
+    pub refusal: Refusal,
+    pub tally: Tally,
+    pub next: usize,
+}
+
+// What follows the lines: a refusal, or the record's last two counts.
+pub enum Ending {
+    Refused(usize, usize),
+    Recorded(usize, usize),
+}
+
+fn answer(refusal: Refusal, tally: Tally) -> Added
+    ensures { λ r. ⌜ (r .refusal ≡ refusal) × (r .tally ≡ tally) ⌝ }
+{
+    Added { refusal, tally }
+}
+
+// Line n.
+fn add_line(
+    nodes: &mut Nodes,
+    bits: &mut Words,
+    known: &mut Words,
+    steering: &mut Words,
+    held: &mut [u16; 129],
+    t: Tally,
+    line: &[u8],
+    n: usize,
+) -> Added
+    requires { ⌜ Drafted (now nodes) (now bits) (now known) (now steering) (now held) t n ⌝ }
+    ensures { λ r. ⌜ LineAdded (now (nodes .entry)) (now (bits .entry)) (now (known .entry)) (now (steering .entry)) (now (held .entry)) t (now (line .entry)) n r (now (nodes .exit)) (now (bits .exit)) (now (known .exit)) (now (steering .exit)) (now (held .exit)) ⌝ }
+{
+    let p = parse(line);
+    let start = p.start;
+    let end = p.end;
+    let entry = p.entry;
+    match entry {
+        Entry::Wrong => answer(Refusal::Refused(1, n), t),
+        Entry::Node(x) => add_node(nodes, steering, t, n, x),
+        Entry::Out(k) => add_out(nodes, t, n, k),
+        Entry::Hold(s) => {
+            let refusal = add_hold(nodes, bits, known, held, t, n, s, &line[start..end]);
+            answer(refusal, t)
+        }
+        Entry::Write(s) => add_write(nodes, steering, t, n, s, &line[start..end]),
+        Entry::Read(s) => add_read(nodes, steering, t, n, s),
+    }
+}
+
+fn empty_tally() -> Tally
+    ensures { λ r. ⌜ r ≡ emptyTally ⌝ }
+{
+    Tally {
+        count: 0,
+        total: 0,
+        has_out: false,
+        out: 0,
+        target_count: 0,
+        target_segment: [0; 4],
+        target_write: [0; 4],
+        target_bits: [0; 4],
+    }
+}
+
+fn left(refusal: Refusal, tally: Tally, next: usize) -> Lines
+    ensures { λ r. ⌜ (r .refusal ≡ refusal) × (r .tally ≡ tally) × (r .next ≡ next) ⌝ }
+{
+    Lines {
+        refusal,
+        tally,
+        next,
+    }
+}
+
+// The lines of a text of at most 16,384 bytes, from the empty draft on.
+fn read_lines(
+    text: &[u8],
+    nodes: &mut Nodes,
+    bits: &mut Words,
+    known: &mut Words,
+    steering: &mut Words,
+    held: &mut [u16; 129],
+) -> Lines
+    requires { ⌜ (length (now text) ≤ 16384) × Draws (now nodes) (now bits) (now known) (now steering) (now held) emptyTally noLines 1 ⌝ }
+    ensures { λ r. ⌜ LinesRead (now (text .entry)) r (now (nodes .exit)) (now (bits .exit)) (now (known .exit)) (now (steering .exit)) (now (held .exit)) ⌝ }
+{
+    let mut tally = empty_tally();
+    let mut at: usize = 0;
+    let mut n: usize = 1;
+    while at < text.len() {
+        let end = text::end_of(text, at, b'\n');
+        if end == text.len() {
+            return left(Refusal::Refused(1, n), tally, n);
+        }
+        let added = add_line(nodes, bits, known, steering, held, tally, &text[at..end], n);
+        let refusal = added.refusal;
+        tally = added.tally;
+        match refusal {
+            Refusal::Refused(number, place) => {
+                return left(Refusal::Refused(number, place), tally, n);
+            }
+            Refusal::Nothing => {}
+        }
+        at = end + 1;
+        n += 1;
+    }
+    left(Refusal::Nothing, tally, n)
+}
+
+// A refusal, with an empty record.
+fn rejected(number: usize, place: usize) -> Reading
+    ensures { λ r. ⌜ (r .verdict ≡ Verdict.Refused number place) × (r .network ≡ noNetwork) ⌝ }
+{
+    Reading {
+        verdict: Verdict::Refused(number, place),
+        network: Network {
+            nodes: [0; 1032],
+            bits: [0; 129],
+            known: [0; 129],
+            steering: [0; 129],
+            tally: empty_tally(),
+            steering_count: 0,
+            start_length: 0,
+        },
+    }
+}
+
+// The path of the start, whose bits are filled: 9, or the record's counts.
+fn walk_start<'a>(
+    nodes: &'a Nodes,
+    bits: &'a Words,
+    known: &'a Words,
+    steering: &'a Words,
+    t: Tally,
+) -> Ending
+    requires { ⌜ ((d : Draft) × ((n : ℕ) × Begun (now nodes) (now bits) (now known) (now steering) t d n)) ⌝ }
+    ensures { λ r. ⌜ StartWalked (now (nodes .entry)) (now (bits .entry)) (now (known .entry)) (now (steering .entry)) t r ⌝ }
+{
+    let mut way = [0u16; 128];
+    match find_path(nodes, bits, known, t.out, &mut way) {
+        Walked::Stop(m) => Ending::Refused(9, m),
+        Walked::Path(n) => {
+            let count = steering_count(nodes, steering, t.count);
+            let length = path_length(nodes, &way, n);
+            Ending::Recorded(count, length)
+        }
+    }
+}
+
+// What follows the lines: their refusal, 4 without an `out` line, or the start.
+fn finish<'a>(
+    nodes: &'a Nodes,
+    bits: &mut Words,
+    known: &mut Words,
+    steering: &'a Words,
+    held: &'a [u16; 129],
+    lines: Lines,
+) -> Ending
+    requires { ⌜ ((a : Result (ℕ × Draft)) × LinesAre (now nodes) (now bits) (now known) (now steering) (now held) a lines) ⌝ }
+    ensures { λ r. ⌜ LinesFinished (now (nodes .entry)) (now (bits .entry)) (now (known .entry)) (now (steering .entry)) (now (held .entry)) lines r (now (bits .exit)) (now (known .exit)) ⌝ }
+{
+    let refusal = lines.refusal;
+    match refusal {
+        Refusal::Refused(number, place) => {
+            return Ending::Refused(number, place);
+        }
+        Refusal::Nothing => {}
+    }
+    let t = lines.tally;
+    if !t.has_out {
+        return Ending::Refused(4, lines.next);
+    }
+    fill_start(bits, known, steering, held, t.count);
+    walk_start(nodes, bits, known, steering, t)
+}
+
+// A network text: the record, or one refusal, 1 to 9.
+pub fn read_network(text: &[u8]) -> Reading
+    ensures { λ r. ⌜ IsReading (now (text .entry)) r ⌝ }
+{
+    if 16384 < text.len() {
+        return rejected(3, 0);
+    }
+    let mut nodes = [0u16; 1032];
+    let mut bits = [0; 129];
+    let mut known = [0; 129];
+    let mut steering = [0; 129];
+    let mut held = [0u16; 129];
+    let lines = read_lines(
+        text,
+        &mut nodes,
+        &mut bits,
+        &mut known,
+        &mut steering,
+        &mut held,
+    );
+    let tally = lines.tally;
+    let ending = finish(&nodes, &mut bits, &mut known, &steering, &held, lines);
+    match ending {
+        Ending::Refused(number, place) => rejected(number, place),
+        Ending::Recorded(count, length) => Reading {
+            verdict: Verdict::Accepted,
+            network: Network {
+                nodes,
+                bits,
+                known,
+                steering,
+                tally,
+                steering_count: count,
+                start_length: length,
+            },
+        },
+    }
+}

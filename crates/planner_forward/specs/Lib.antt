@@ -1,0 +1,3 @@
+-- What the contracts of the goals and of the layers cite.
+pub mod Goals
+pub mod Spreading

@@ -1,0 +1,29 @@
+// The read program's line.
+use network_reader::reader::Verdict;
+use network_reader::reader::read_network;
+
+// `ok` with the counts of nodes, segment bits, distinct steering bits and bits of the start's path.
+fn show_counts(nodes: usize, bits: usize, steering: usize, length: usize) {
+    program_io::put(b"ok");
+    program_io::put_number(nodes);
+    program_io::put_number(bits);
+    program_io::put_number(steering);
+    program_io::put_number(length);
+    program_io::end_line();
+}
+
+// What reading a network text gives.
+pub fn show(text: &[u8]) {
+    let reading = read_network(text);
+    let verdict = reading.verdict;
+    let network = reading.network;
+    match verdict {
+        Verdict::Accepted => show_counts(
+            network.tally.count,
+            network.tally.total,
+            network.steering_count,
+            network.start_length,
+        ),
+        Verdict::Refused(number, place) => program_io::put_refusal(number, place),
+    }
+}

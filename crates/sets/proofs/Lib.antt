@@ -1,2 +1,0 @@
--- Laws of sets of sets of targets.
-pub mod SetLaws

@@ -1,2 +1,0 @@
--- What the contracts of the sets of sets of targets cite.
-pub mod Sets

@@ -1,3 +1,0 @@
--- Laws of the table of layers by slots.
-pub mod SlotLaws
-pub mod Skipping

@@ -1,2 +1,0 @@
--- The table of layers.
-pub mod Table
