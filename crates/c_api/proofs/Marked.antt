@@ -14,7 +14,7 @@ use Rattle.marker.specs.declared.targets.Verdict.{Verdict}
 use Rattle.marker.specs.declared.targets.Verdict.the-variants.{Pass as Passed, Refused}
 use Rattle.marker.specs.declared.targets.Gots.{Gots}
 use Rattle.marker.specs.declared.targets.Mark.{Mark}
-use Rattle.marker.specs.Marks.{gotRow, gotsOf, verdictOf, markOf, Blank, RowsFor}
+use Rattle.marker.specs.Marks.{gotRow, gotsOf, verdictOf, markOf, ZerosBehind, RowsFor}
 use Rattle.c_api.specs.Numbers.{gotNumbers, padded, markNumbers}
 
 abbrev noRow : Got
@@ -38,7 +38,7 @@ module _ (f : ℕ → Got) where
   numbers-long i (suc count) = let n = numbers-long (suc i) count in omega (arith, n)
 
 -- the numbers of a pass with these columns
-module _ (operations clocks : ℕ) (g : Gots) (b : Blank g) where
+module _ (operations clocks : ℕ) (g : Gots) (b : ZerosBehind g) where
   abbrev rows : List ℕ
   rows = gotNumbers (gotsOf g)
 

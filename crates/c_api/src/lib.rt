@@ -2,8 +2,8 @@
 use clock_writer::Written;
 use clock_writer::write_clocks;
 use marker::mark;
-use marker::targets::Verdict as Judgement;
-use network_reader::reader::Verdict;
+use marker::targets::Verdict;
+use network_reader::reader::Acceptance;
 use network_reader::reader::read_network;
 use planner::make_plan;
 use planner_text::Planned;
@@ -23,16 +23,16 @@ pub extern "C" fn penthluk_read(text: &[u8], answer: &mut [usize; 5])
     let verdict = reading.verdict;
     let network = reading.network;
     match verdict {
-        Verdict::Accepted => {
+        Acceptance::Accepted => {
             *answer = [
                 0,
-                network.tally.count,
-                network.tally.total,
+                network.summary.count,
+                network.summary.total,
                 network.steering_count,
                 network.start_length,
             ];
         }
-        Verdict::Refused(number, place) => {
+        Acceptance::Refused(number, place) => {
             *answer = [number, place, 0, 0, 0];
         }
     }
@@ -48,7 +48,7 @@ pub extern "C" fn penthluk_mark(network: &[u8], plan: &[u8], answer: &mut [usize
     let verdict = marked.verdict;
     let gots = marked.gots;
     match verdict {
-        Judgement::Pass(operations, clocks) => {
+        Verdict::Pass(operations, clocks) => {
             *answer = [
                 0,
                 operations,
@@ -68,7 +68,7 @@ pub extern "C" fn penthluk_mark(network: &[u8], plan: &[u8], answer: &mut [usize
                 gots.places[3],
             ];
         }
-        Judgement::Refused(number, place) => {
+        Verdict::Refused(number, place) => {
             *answer = [number, place, 0, 0, 0, 0, 0, 0, 0, 0, 0, 0, 0, 0, 0, 0];
         }
     }

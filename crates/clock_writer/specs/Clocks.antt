@@ -18,6 +18,6 @@ abbrev pub tdiBytes : Bytes → Bytes
 tdiBytes bits = bytes "000" ++ (bits ++ bytes "00")
 
 -- number and values of each case
-abbrev pub answerOf : Written → Result ℕ
-answerOf (Clocks count) = ok count
-answerOf (Refused number place) = refused number place
+abbrev pub writtenAnswer : Written → Result ℕ
+writtenAnswer (Clocks count) = ok count
+writtenAnswer (Refused number place) = refused number place

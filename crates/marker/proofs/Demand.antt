@@ -20,7 +20,7 @@ use Rattle.model.proofs.MarkerDemand.{marked-texts}
 use Rattle.model.proofs.Demands.{marker, clocks as written, played}
 use Rattle.clock_writer.specs.declared.Written.{Written}
 use Rattle.clock_writer.specs.declared.Written.the-variants.{Clocks, Refused as NotWritten}
-use Rattle.clock_writer.specs.Clocks.{answerOf}
+use Rattle.clock_writer.specs.Clocks.{writtenAnswer}
 use Rattle.marker.specs.declared.targets.Verdict.{Verdict}
 use Rattle.marker.specs.declared.targets.Verdict.the-variants.{Pass as Passed, Refused}
 use Rattle.marker.specs.Marks.{gotsOf, verdictOf}
@@ -41,7 +41,7 @@ passes-exactly n p m e = (there, back)
     back a = let b = marker n p .1 a in verdict-pass (m .verdict) (gotsOf (m .gots)) (b .0) (e ∙ b .1)
 
 -- the answer of a call that writes
-answer-clocks : (w : Written) (count : ℕ) → answerOf w ≡ ok count → w ≡ Clocks count
+answer-clocks : (w : Written) (count : ℕ) → writtenAnswer w ≡ ok count → w ≡ Clocks count
 answer-clocks (Clocks k) count e = ap Clocks (ok-is e)
 answer-clocks (NotWritten number place) count e = absurd (not-ok e)
 

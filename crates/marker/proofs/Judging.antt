@@ -19,11 +19,11 @@ use Rattle.model.proofs.Lists.{tabulate-whole, tabulate-step, tabulate-none}
 use Rattle.network_words.specs.Words.{wordBit, tritAt, tritsOf}
 use Rattle.network_path.specs.Layout.{configOf}
 use Rattle.network_path.proofs.ConfigLaws.{config-row}
-use Rattle.network_draft.specs.declared.store.Tally.{Tally}
-use Rattle.network_draft.specs.Draws.{targetAt, targetsOf}
+use Rattle.network_draft.specs.declared.store.Summary.{Summary}
+use Rattle.network_draft.specs.Represents.{targetAt, targetsOf}
 use Rattle.marker.specs.declared.targets.Gots.{Gots}
 use Rattle.marker.specs.declared.targets.Verdict.the-variants.{Pass as Passed}
-use Rattle.marker.specs.Marks.{gotsOf, Blank, noGots, refusedMark}
+use Rattle.marker.specs.Marks.{gotsOf, ZerosBehind, noGots, refusedMark}
 use Rattle.marker_operations.specs.Operations.{accessOf, Reached}
 use Rattle.marker.specs.Targets.{Pushed, segmentOf, Judgeable, lenAt, isHeld, Judges}
 use Rattle.marker.proofs.Rows.{blank-none}
@@ -83,19 +83,19 @@ accessed zero q ne = absurd (ne refl)
 accessed (suc k) q ne = refl
 
 -- the bits that write target i asks for
-abbrev asked : List ℕ → Tally → ℕ → List Bool
+abbrev asked : List ℕ → Summary → ℕ → List Bool
 asked ns t i = tabulate (wordBit (getD (t .«target_bits») i 0)) 0 (lenAt ns t i)
 
 -- at target i: the rows are those of the targets before it, and the targets from it on decide
-pub record Judging (ns : List ℕ) (t : Tally) (bits known first places : List ℕ) (lines clocks : ℕ) (gots : Gots) (i : ℕ) : Type 0 where
+pub record Judging (ns : List ℕ) (t : Summary) (bits known first places : List ℕ) (lines clocks : ℕ) (gots : Gots) (i : ℕ) : Type 0 where
   pub within : i ≤ t .«target_count»
   pub rows : gots .count ≤ i
-  pub blank : Blank gots
+  pub blank : ZerosBehind gots
   pub rest : (ps : List ScanPath) → Reached t first places ps
       → andThen (targetsFrom 1 ps (configOf ns bits known (t .count)) (targetsOf ns t)) (passedWith lines clocks)
       ≡ andThen (targetsFrom (suc i) ps (configOf ns bits known (t .count)) (tabulate (targetAt ns t) i (t .«target_count» - i))) (λ gs. passedWith lines clocks (gotsOf gots ++ gs))
 
-module _ (ns : List ℕ) (t : Tally) (bits known first places : List ℕ) (lines clocks : ℕ) where
+module _ (ns : List ℕ) (t : Summary) (bits known first places : List ℕ) (lines clocks : ℕ) where
   abbrev conf : Config
   conf = configOf ns bits known (t .count)
 

@@ -12,10 +12,10 @@ use Rattle.model.specs.Mark.{Got}
 use Rattle.model.specs.Network.{tabulate}
 use Rattle.model.proofs.Lists.{zero-at, tabulate-cong, tabulate-snoc}
 use Rattle.marker.specs.declared.targets.Gots.{Gots}
-use Rattle.marker.specs.Marks.{gotRow, gotsOf, Blank, noGots}
+use Rattle.marker.specs.Marks.{gotRow, gotsOf, ZerosBehind, noGots}
 use Rattle.marker.specs.Targets.{Pushed}
 
-pub blank-none : Blank noGots
+pub blank-none : ZerosBehind noGots
 blank-none = record {
   few = omega arith;
   targets-size = refl;
@@ -24,7 +24,7 @@ blank-none = record {
   zeros = λ i l. rw (zero-at 4 i);
 }
 
-module _ (old : Gots) (x k q : ℕ) (b : Blank old) (room : old .count < 4) where
+module _ (old : Gots) (x k q : ℕ) (b : ZerosBehind old) (room : old .count < 4) where
   abbrev n : ℕ
   n = old .count
 

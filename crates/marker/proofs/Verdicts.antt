@@ -21,15 +21,15 @@ use Rattle.plan_text.specs.declared.Form.the-variants.{Good, Refused as Bad}
 use Rattle.plan_text.proofs.Forms.{GoodText, form-good, form-refused}
 use Rattle.network_reader.specs.declared.reader.Network.{Network}
 use Rattle.network_reader.specs.declared.reader.Reading.{Reading}
-use Rattle.network_reader.specs.declared.reader.Verdict.{Verdict}
-use Rattle.network_reader.specs.declared.reader.Verdict.the-variants.{Accepted, Refused as Rejected}
-use Rattle.network_reader.specs.Reads.{networkOf, IsReading}
+use Rattle.network_reader.specs.declared.reader.Acceptance.{Acceptance}
+use Rattle.network_reader.specs.declared.reader.Acceptance.the-variants.{Accepted, Refused as Rejected}
+use Rattle.network_reader.specs.Reads.{recordedNetwork, IsReading}
 use Rattle.marker_operations.specs.declared.Ran.{Ran}
 use Rattle.marker_operations.specs.declared.Ran.the-variants.{Done, Refused}
 use Rattle.marker.specs.declared.targets.Mark.{Mark}
 use Rattle.marker.specs.Marks.{markOf, refusedMark, RowsFor, Markable, planMark}
 use Rattle.marker.specs.Targets.{Judgeable, Judges}
-use Rattle.marker_operations.specs.Operations.{Slots, configAt, RanAs, Starts, Startable, fromStart, Runs, Reached}
+use Rattle.marker_operations.specs.Operations.{Slots, configAt, RanAs, HoldsStart, Startable, fromStart, Runs, Reached}
 use Rattle.network_reader.proofs.Records.{Recorded, reading-rejected, reading-recorded, target-segment}
 use Rattle.marker_operations.proofs.Noting.{reached-none}
 
@@ -50,12 +50,12 @@ module _ (n p : Bytes) (r : Reading) (is : IsReading n r) where
 
     module _ (f : Form) (e : formOf f ≡ planForm p) where
       pub plan-refused : (place : ℕ) → f ≡ Bad place → refused 14 place ≡ mark n p
-      plan-refused place q = sym (ap (λ (a : Result Plan). andThen a (markPlan (networkOf (r .network)))) (form-refused p f place e q)) ∙ network-accepted
+      plan-refused place q = sym (ap (λ (a : Result Plan). andThen a (markPlan (recordedNetwork (r .network)))) (form-refused p f place e q)) ∙ network-accepted
 
       pub markable : (lines : ℕ) → f ≡ Good lines → Markable (r .network) p lines
       markable lines q = record {
         text = n;
-        reading = subst (λ (v : Verdict). IsReading n record { verdict = v; network = r .network }) passes is;
+        reading = subst (λ (v : Acceptance). IsReading n record { verdict = v; network = r .network }) passes is;
         form = sym e ∙ ap formOf q;
       }
 
@@ -74,7 +74,7 @@ by-run net plan = go (walk net (net .start))
 
 module _ (r : Network) (p : Bytes) (lines : ℕ) (m : Markable r p lines) where
   abbrev net : ModelNetwork
-  net = networkOf r
+  net = recordedNetwork r
 
   c : Recorded (m .text) r
   c = reading-recorded (m .text) record { verdict = Accepted; network = r } (m .reading) refl
@@ -82,18 +82,18 @@ module _ (r : Network) (p : Bytes) (lines : ℕ) (m : Markable r p lines) where
   good : GoodText p lines
   good = form-good p (Good lines) lines (sym (m .form)) refl
 
-  starts : Starts net (r .nodes) (r .tally) (r .bits) (r .known)
-  starts = record { stored = c .stored; start = refl; tame = c .filled .tame; sized = record { words = c .filled .bits-size; marks = c .filled .known-size } }
+  starts : HoldsStart net (r .nodes) (r .summary) (r .bits) (r .known)
+  starts = record { stored = c .stored; start = refl; in-limits = c .filled .in-limits; sized = record { words = c .filled .bits-size; marks = c .filled .known-size } }
 
   -- what the run asks
-  pub runnable : HasForm p × (Startable (r .nodes) (r .tally) (r .bits) (r .known) × (Slots (replicate 4 0) (replicate 4 0) × Reached (r .tally) (replicate 4 0) (replicate 4 0) []))
-  runnable = ((good .plan, good .reads), ((net, starts), (record { first-size = refl; places-size = refl }, reached-none (r .tally) (replicate 4 0) (replicate 4 0) (λ i lt. zero-at 4 i))))
+  pub runnable : HasForm p × (Startable (r .nodes) (r .summary) (r .bits) (r .known) × (Slots (replicate 4 0) (replicate 4 0) × Reached (r .summary) (replicate 4 0) (replicate 4 0) []))
+  runnable = ((good .plan, good .reads), ((net, starts), (record { first-size = refl; places-size = refl }, reached-none (r .summary) (replicate 4 0) (replicate 4 0) (λ i lt. zero-at 4 i))))
 
-  module _ (ran : Ran) (bits known first places : List ℕ) (runs : Runs (r .nodes) (r .tally) p (r .bits) (r .known) ran bits known first places) where
+  module _ (ran : Ran) (bits known first places : List ℕ) (runs : Runs (r .nodes) (r .summary) p (r .bits) (r .known) ran bits known first places) where
     abbrev whole : Result Run
     whole = fromStart net (good .plan) (walk net (net .start))
 
-    ran-as : RanAs (r .nodes) (r .tally) ran bits known first places whole
+    ran-as : RanAs (r .nodes) (r .summary) ran bits known first places whole
     ran-as = runs net (good .plan) (good .reads) starts
 
     marks-by : planMark r p ≡ andThen whole (thenTargets net (good .plan))
@@ -102,28 +102,28 @@ module _ (r : Network) (p : Bytes) (lines : ℕ) (m : Markable r p lines) where
     pub run-refused : (number place : ℕ) → ran ≡ Refused number place → refused number place ≡ planMark r p
     run-refused number place e = sym (marks-by ∙ ap (λ (a : Result Run). andThen a (thenTargets net (good .plan))) (go whole ran-as))
       where
-        go : (a : Result Run) → RanAs (r .nodes) (r .tally) ran bits known first places a → a ≡ refused number place
+        go : (a : Result Run) → RanAs (r .nodes) (r .summary) ran bits known first places a → a ≡ refused number place
         go (ok run) f = absurd (let z : Done ≡ Refused number place = sym (f .0) ∙ e in let y : _≡_ {A = ℕ} 0 1 = cc in omega arith)
         go (refused a b) f = let z : Refused a b ≡ Refused number place = sym f ∙ e in let x : a ≡ number = cc in let y : b ≡ place = cc in rw (x, y)
 
     record Finished : Type 0 where
       run : Run
       is : whole ≡ ok run
-      last : configAt (r .nodes) (r .tally) bits known ≡ run .last
-      reached : Reached (r .tally) first places (run .paths)
+      last : configAt (r .nodes) (r .summary) bits known ≡ run .last
+      reached : Reached (r .summary) first places (run .paths)
       sized : ConfigSized bits known
 
     finished : ran ≡ Done → Finished
     finished e = go whole refl ran-as
       where
-        go : (a : Result Run) → whole ≡ a → RanAs (r .nodes) (r .tally) ran bits known first places a → Finished
+        go : (a : Result Run) → whole ≡ a → RanAs (r .nodes) (r .summary) ran bits known first places a → Finished
         go (ok run) q f = record { run = run; is = q; last = f .1; reached = f .2; sized = f .3 }
         go (refused a b) q f = absurd (let z : Done ≡ Refused a b = sym e ∙ f in let y : _≡_ {A = ℕ} 0 1 = cc in omega arith)
 
     -- what the judgement asks
-    pub judgeable : ran ≡ Done → Judgeable (r .nodes) (r .tally) bits known
+    pub judgeable : ran ≡ Done → Judgeable (r .nodes) (r .summary) bits known
     judgeable e = record {
-      tame = c .filled .tame;
+      in-limits = c .filled .in-limits;
       sized = finished e .sized;
       least = λ i lt. target-segment (m .text) r c i lt .least;
       most = λ i lt. target-segment (m .text) r c i lt .most;
@@ -133,12 +133,12 @@ module _ (r : Network) (p : Bytes) (lines : ℕ) (m : Markable r p lines) where
     abbrev ending : List ScanPath → Config → ℕ → ℕ → Result Pass
     ending ps x k l = andThen (targetsFrom 1 ps x (net .targets)) (λ gs. ok record { operations = k; clocks = l; gots = gs })
 
-    pub judged : (a : Mark) → ran ≡ Done → Judges (r .nodes) (r .tally) bits known first places lines (length p) a → markOf a ≡ planMark r p
+    pub judged : (a : Mark) → ran ≡ Done → Judges (r .nodes) (r .summary) bits known first places lines (length p) a → markOf a ≡ planMark r p
     judged a e j =
         let f = finished e in
         let many : length p ≡ length (planClocks (good .plan)) = ap length (good .text) ∙ clocks-bytes (good .plan) in
         j (f .run .paths) (f .reached)
-        ∙ ap (λ (k : ℕ). ending (f .run .paths) (configAt (r .nodes) (r .tally) bits known) k (length p)) (sym (good .count))
-        ∙ ap (λ (k : ℕ). ending (f .run .paths) (configAt (r .nodes) (r .tally) bits known) (length (good .plan)) k) many
+        ∙ ap (λ (k : ℕ). ending (f .run .paths) (configAt (r .nodes) (r .summary) bits known) k (length p)) (sym (good .count))
+        ∙ ap (λ (k : ℕ). ending (f .run .paths) (configAt (r .nodes) (r .summary) bits known) (length (good .plan)) k) many
         ∙ ap (λ (x : Config). ending (f .run .paths) x (length (good .plan)) (length (planClocks (good .plan)))) (f .last)
         ∙ sym (marks-by ∙ ap (λ (a : Result Run). andThen a (thenTargets net (good .plan))) (f .is))

@@ -20,7 +20,7 @@ use Rattle.model.specs.Played.{UpheldBy}
 use Rattle.model.specs.Demands.{AcceptedAndValid}
 use Rattle.clock_writer.specs.declared.Written.{Written}
 use Rattle.clock_writer.specs.declared.Written.the-variants.{Clocks}
-use Rattle.clock_writer.specs.Clocks.{answerOf}
+use Rattle.clock_writer.specs.Clocks.{writtenAnswer}
 use Rattle.marker.specs.declared.targets.Mark.{Mark}
 use Rattle.marker.specs.declared.targets.Verdict.the-variants.{Pass}
 use Rattle.marker.specs.Marks.{gotsOf, markOf}
@@ -33,7 +33,7 @@ MarkReturned n p m = markOf m ≡ mark n p
 
 -- `write_clocks` returned w for a plan text, and left the buffers tms and tdi as tms′ and tdi′
 pub record WroteClocks (p : Bytes) (tms tdi : List ℕ) (w : Written) (tms′ tdi′ : List ℕ) : Type 0 where
-  pub result : answerOf w ≡ writeClocks p tms tdi .result
+  pub result : writtenAnswer w ≡ writeClocks p tms tdi .result
   pub tms-left : tms′ ≡ writeClocks p tms tdi .tms
   pub tdi-left : tdi′ ≡ writeClocks p tms tdi .tdi
 

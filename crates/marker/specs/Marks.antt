@@ -11,8 +11,8 @@ use Rattle.model.specs.PlanText.{readPlan}
 use Rattle.model.specs.Mark.{Got, Pass, markPlan}
 use Rattle.plan_text.specs.Form.{planForm}
 use Rattle.network_reader.specs.declared.reader.Network.{Network}
-use Rattle.network_reader.specs.declared.reader.Verdict.the-variants.{Accepted}
-use Rattle.network_reader.specs.Reads.{networkOf, IsReading}
+use Rattle.network_reader.specs.declared.reader.Acceptance.the-variants.{Accepted}
+use Rattle.network_reader.specs.Reads.{recordedNetwork, IsReading}
 use Rattle.marker.specs.declared.targets.Verdict.{Verdict}
 use Rattle.marker.specs.declared.targets.Verdict.the-variants.{Pass as Passed, Refused}
 use Rattle.marker.specs.declared.targets.Gots.{Gots}
@@ -34,7 +34,7 @@ markOf m = verdictOf (m .verdict) (gotsOf (m .gots))
 
 -- ---- the columns beyond the rows
 
-pub record Blank (g : Gots) : Type 0 where
+pub record ZerosBehind (g : Gots) : Type 0 where
   pub few : g .count ≤ 4
   pub targets-size : length (g .targets) ≡ 4
   pub operations-size : length (g .operations) ≡ 4
@@ -48,7 +48,7 @@ abbrev pub refusedMark : ℕ → ℕ → Mark
 refusedMark number place = record { verdict = Refused number place; gots = noGots }
 
 abbrev pub RowsFor : Verdict → Gots → Type 0
-RowsFor (Passed lines clocks) g = Blank g
+RowsFor (Passed lines clocks) g = ZerosBehind g
 RowsFor (Refused number place) g = g ≡ noGots
 
 -- ---- the texts read
@@ -61,4 +61,4 @@ pub record Markable (r : Network) (p : Bytes) (lines : ℕ) : Type 0 where
 
 -- the model's mark of a plan text on a record's network
 abbrev pub planMark : Network → Bytes → Result Pass
-planMark r p = andThen (readPlan p) (markPlan (networkOf r))
+planMark r p = andThen (readPlan p) (markPlan (recordedNetwork r))

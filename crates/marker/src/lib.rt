@@ -4,8 +4,8 @@ use crate::targets::judge;
 use crate::targets::refused;
 use marker_operations::Ran;
 use marker_operations::run_plan;
+use network_reader::reader::Acceptance;
 use network_reader::reader::Network;
-use network_reader::reader::Verdict;
 use network_reader::reader::read_network;
 use plan_text::Form;
 use plan_text::check_form;
@@ -21,14 +21,14 @@ fn mark_operations(net: Network, plan: &[u8], lines: usize) -> Mark
     ensures { λ r. ⌜ markOf r ≡ planMark net (now (plan .entry)) ⌝ }
     ensures { λ r. ⌜ RowsFor (r .verdict) (r .gots) ⌝ }
 {
-    let tally = net.tally;
+    let summary = net.summary;
     let mut bits = net.bits;
     let mut known = net.known;
     let mut first = [0usize; 4];
     let mut places = [0usize; 4];
     let ran = run_plan(
         &net.nodes,
-        tally,
+        summary,
         plan,
         &mut bits,
         &mut known,
@@ -39,7 +39,7 @@ fn mark_operations(net: Network, plan: &[u8], lines: usize) -> Mark
         Ran::Refused(number, place) => refused(number, place),
         Ran::Done => judge(
             &net.nodes,
-            tally,
+            summary,
             &bits,
             &known,
             &first,
@@ -59,10 +59,10 @@ pub fn mark(network: &[u8], plan: &[u8]) -> Mark
     let verdict = reading.verdict;
     let net = reading.network;
     match verdict {
-        Verdict::Refused(number, place) => {
+        Acceptance::Refused(number, place) => {
             return refused(number, place);
         }
-        Verdict::Accepted => {}
+        Acceptance::Accepted => {}
     }
     let form = check_form(plan);
     match form {

@@ -1,5 +1,5 @@
 // The targets after the operations: 17 for the lowest that was on no path or does not hold its bits, or the pass with its `got` rows.
-use network_draft::store::Tally;
+use network_draft::store::Summary;
 use network_path::layout::Nodes;
 use network_path::layout::Words;
 use network_path::layout::segment_len;
@@ -11,7 +11,7 @@ ghost use Prim.Native.Nat.{_≤_, _<_};
 ghost use Rattle.model.specs.Mark.{holdsBits};
 ghost use Rattle.model.specs.Network.{tabulate};
 ghost use Rattle.network_words.specs.Words.{wordWidth, wordBit, tritsOf};
-ghost use Rattle.marker.specs.Marks.{noGots, Blank, refusedMark, RowsFor};
+ghost use Rattle.marker.specs.Marks.{noGots, ZerosBehind, refusedMark, RowsFor};
 ghost use Rattle.marker.specs.Targets.{Pushed, Judgeable, isHeld, Judges};
 
 // `pass` with the counts of operations and of clocks, or a refusal's number and place.
@@ -55,7 +55,7 @@ pub fn refused(number: usize, place: usize) -> Mark
 
 // One more row.
 fn push(old: Gots, target: usize, operation: usize, place: usize) -> Gots
-    requires { ⌜ Blank old × (old .count < 4) ⌝ }
+    requires { ⌜ ZerosBehind old × (old .count < 4) ⌝ }
     ensures { λ r. ⌜ Pushed old target operation place r ⌝ }
 {
     let at = old.count;
@@ -92,7 +92,7 @@ fn holds_bits(bits: Word, known: Word, want: Word, len: usize) -> bool
 }
 
 // Whether write target i holds its bits.
-fn is_held<'a>(nodes: &'a Nodes, t: Tally, bits: &'a Words, known: &'a Words, i: usize) -> bool
+fn is_held<'a>(nodes: &'a Nodes, t: Summary, bits: &'a Words, known: &'a Words, i: usize) -> bool
     requires { ⌜ Judgeable (now nodes) t (now bits) (now known) × (i < t .«target_count») ⌝ }
     ensures { λ r. ⌜ r ≡ isHeld (now (nodes .entry)) t (now (bits .entry)) (now (known .entry)) i ⌝ }
 {
@@ -103,7 +103,7 @@ fn is_held<'a>(nodes: &'a Nodes, t: Tally, bits: &'a Words, known: &'a Words, i:
 // The targets in turn, the first operation with each on its path being in first, 0 for none, and its place there in places.
 pub fn judge<'a>(
     nodes: &'a Nodes,
-    t: Tally,
+    t: Summary,
     bits: &'a Words,
     known: &'a Words,
     first: &'a [usize; 4],

@@ -10,7 +10,7 @@ use lib.ListN.{length, getD, set, length-set}
 use lib.Seq.{getD-set-same, getD-set-other}
 use Rattle.model.specs.Path.{ScanPath, place}
 use Rattle.model.specs.Mark.{orLater, firstOn}
-use Rattle.network_draft.specs.declared.store.Tally.{Tally}
+use Rattle.network_draft.specs.declared.store.Summary.{Summary}
 use Rattle.marker_operations.specs.Operations.{Slots, accessAfter, NotedAt, Noted, accessOf, Reached}
 
 -- ---- one target
@@ -78,7 +78,7 @@ first-more k (q ∷ ps) p s = go (place q s) (first-more (suc k) ps p s)
     go (some q) e = refl
     go none e = let z : k + suc (length ps) ≡ suc k + length ps = omega arith in rw z e
 
-module _ (t : Tally) where
+module _ (t : Summary) where
   pub reached-none : (first places : List ℕ) → ((i : ℕ) → i < t .«target_count» → getD first i 0 ≡ 0) → Reached t first places []
   unfolding firstOn
   reached-none first places z i lt = rw (z i lt)

@@ -18,28 +18,28 @@ use Rattle.model.specs.Mark.{Run, along, settled, runFrom}
 use Rattle.model.proofs.PlanTexts.{text-of}
 use Rattle.network_words.specs.Words.{byteBit}
 use Rattle.network_path.specs.Layout.{scanPath}
-use Rattle.network_path.specs.Answers.{Found, Loads}
+use Rattle.network_path.specs.Answers.{FindsPath, Loads}
 use Rattle.network_path.specs.declared.walk.Walked.{Walked}
 use Rattle.network_path.specs.declared.walk.Walked.the-variants.{Path, Stop as Stopped}
 use Rattle.network_path.proofs.StoredLaws.{found-path, found-stop}
 use Rattle.plan_text.specs.Lines.{bitRun}
 use Rattle.plan_text.proofs.Lines.{line-room, line-bits, line-next, line-more, line-none}
-use Rattle.network_draft.specs.declared.store.Tally.{Tally}
+use Rattle.network_draft.specs.declared.store.Summary.{Summary}
 use Rattle.marker_operations.specs.declared.Operated.{Operated}
 use Rattle.marker_operations.specs.declared.Operated.the-variants.{Next, WrongLength, NotValid}
 use Rattle.marker_operations.specs.declared.Ran.the-variants.{Done, Refused}
-use Rattle.marker_operations.specs.Operations.{Slots, Noted, configAt, OnPath, Loaded, OperatedAs, Operates, RanAs, Starts, fromStart, Reached}
+use Rattle.marker_operations.specs.Operations.{Slots, Noted, configAt, OnPath, Loaded, OperatedAs, Operates, RanAs, HoldsStart, fromStart, Reached}
 use Rattle.marker_operations.proofs.Noting.{reached-more}
 
 -- ---- one operation
 
-module _ (ns : List ℕ) (t : Tally) (scan : Bytes) (k : ℕ) (way : List ℕ) (n : ℕ) (bits known first places : List ℕ) where
+module _ (ns : List ℕ) (t : Summary) (scan : Bytes) (k : ℕ) (way : List ℕ) (n : ℕ) (bits known first places : List ℕ) where
   abbrev p : ScanPath
   p = scanPath ns (take n way)
 
   module _ (len : ℕ) (way′ bits′ known′ first′ places′ : List ℕ) (r : Walked) (e : len ≡ pathLength p) (l : length scan ≡ len)
       (noted : Noted p (t .«target_segment») (t .«target_count») k first places first′ places′) (loads : Loads ns way n scan bits known bits′ known′)
-      (found : Found ns bits′ known′ (t .out) r way′) where
+      (found : FindsPath ns bits′ known′ (t .out) r way′) where
     op-loaded : Loaded ns t p scan k bits known first places bits′ known′ first′ places′
     op-loaded = record { as-long = l ∙ e; after = loads .loads (t .count); noted = noted }
 
@@ -49,7 +49,7 @@ module _ (ns : List ℕ) (t : Tally) (scan : Bytes) (k : ℕ) (way : List ℕ) (
       record {
         stored = o .stored;
         found = found-path net ns (t .count) (t .out) (o .stored) bits′ known′ r way′ found m q;
-        tame = o .tame;
+        in-limits = o .in-limits;
         sized = loads .sized;
       },
     )
@@ -83,7 +83,7 @@ module _ (net : Network) (k : ℕ) (p : ScanPath) (c : Config) (bs : List Bool) 
 
 -- ---- the loop: the run so far, and what is left of the text
 
-pub record Going (net : Network) (plan : Plan) (ns : List ℕ) (t : Tally) (text : Bytes) (whole : Result Run) (at k : ℕ) (way : List ℕ) (n : ℕ) (bits known first places : List ℕ) : Type 0 where
+pub record Going (net : Network) (plan : Plan) (ns : List ℕ) (t : Summary) (text : Bytes) (whole : Result Run) (at k : ℕ) (way : List ℕ) (n : ℕ) (bits known first places : List ℕ) : Type 0 where
   pub ps : List ScanPath
   pub rest : Plan
   pub left : drop at text ≡ writePlan rest
@@ -93,7 +93,7 @@ pub record Going (net : Network) (plan : Plan) (ns : List ℕ) (t : Tally) (text
   pub runs : whole ≡ andThen (runFrom net k (scanPath ns (take n way)) (configAt ns t bits known) rest) (behind ps)
   pub reached : Reached t first places ps
 
-module _ (net : Network) (plan : Plan) (ns : List ℕ) (t : Tally) (text : Bytes) where
+module _ (net : Network) (plan : Plan) (ns : List ℕ) (t : Summary) (text : Bytes) where
   pub going-start : (way : List ℕ) (n : ℕ) (bits known first places : List ℕ) → readPlan text ≡ ok plan → OnPath net ns t way n bits known → Reached t first places []
       → Going net plan ns t text (runFrom net 1 (scanPath ns (take n way)) (configAt ns t bits known) plan) 0 1 way n bits known first places
   going-start way n bits known first places e o r = record {
@@ -207,13 +207,13 @@ module _ (net : Network) (plan : Plan) (ns : List ℕ) (t : Tally) (text : Bytes
 
 -- ---- from the start
 
-module _ (net : Network) (plan : Plan) (ns : List ℕ) (t : Tally) (text : Bytes) (bits known : List ℕ) (way : List ℕ) (r : Walked) (s : Starts net ns t bits known)
-    (found : Found ns bits known (t .out) r way) where
+module _ (net : Network) (plan : Plan) (ns : List ℕ) (t : Summary) (text : Bytes) (bits known : List ℕ) (way : List ℕ) (r : Walked) (s : HoldsStart net ns t bits known)
+    (found : FindsPath ns bits known (t .out) r way) where
   pub start-stops : (m : ℕ) → r ≡ Stopped m → fromStart net plan (walk net (net .start)) ≡ refused 9 m
   start-stops m e = ap (fromStart net plan) (ap (walk net) (sym (s .start)) ∙ found-stop net ns (t .count) (t .out) (s .stored) bits known r way found m e)
 
   pub start-on : (n : ℕ) → r ≡ Path n → OnPath net ns t way n bits known
-  start-on n e = record { stored = s .stored; found = found-path net ns (t .count) (t .out) (s .stored) bits known r way found n e; tame = s .tame; sized = s .sized }
+  start-on n e = record { stored = s .stored; found = found-path net ns (t .count) (t .out) (s .stored) bits known r way found n e; in-limits = s .in-limits; sized = s .sized }
 
   pub start-runs : (n : ℕ) → r ≡ Path n → runFrom net 1 (scanPath ns (take n way)) (configAt ns t bits known) plan ≡ fromStart net plan (walk net (net .start))
   start-runs n e = rw (s .start) (sym (ap (fromStart net plan) (ap (walk net) (sym (s .start)) ∙ start-on n e .found .walks)))

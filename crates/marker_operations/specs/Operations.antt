@@ -17,8 +17,8 @@ use Rattle.network_words.specs.Words.{byteBit}
 use Rattle.network_path.specs.Layout.{configOf, scanPath}
 use Rattle.network_path.specs.Answers.{ConfigSized}
 use Rattle.network_path.specs.Stored.{Stored, PathFound}
-use Rattle.network_draft.specs.declared.store.Tally.{Tally}
-use Rattle.network_draft.specs.Draws.{Tame}
+use Rattle.network_draft.specs.declared.store.Summary.{Summary}
+use Rattle.network_draft.specs.Represents.{InLimits}
 use Rattle.marker_operations.specs.declared.Ran.{Ran}
 use Rattle.marker_operations.specs.declared.Ran.the-variants.{Done, Refused}
 use Rattle.marker_operations.specs.declared.Operated.{Operated}
@@ -32,7 +32,7 @@ accessOf zero q = none
 accessOf (suc k) q = some (suc k, q)
 
 -- for each target the first operation on whose path it was, after operations with these paths, and its place
-abbrev pub Reached : Tally → List ℕ → List ℕ → List ScanPath → Type 0
+abbrev pub Reached : Summary → List ℕ → List ℕ → List ScanPath → Type 0
 Reached t first places ps = (i : ℕ) → i < t .«target_count» → accessOf (getD first i 0) (getD places i 0) ≡ firstOn 1 ps (getD (t .«target_segment») i 0)
 
 -- an entry for each of 4 targets
@@ -58,45 +58,45 @@ pub record Noted (p : ScanPath) (segments : List ℕ) (count k : ℕ) (first pla
 -- ---- one operation
 
 -- the configuration that the words hold
-abbrev pub configAt : List ℕ → Tally → List ℕ → List ℕ → Config
+abbrev pub configAt : List ℕ → Summary → List ℕ → List ℕ → Config
 configAt ns t bits known = configOf ns bits known (t .count)
 
 -- the arrays hold the network and a valid configuration, with its path of n segments in way
-pub record OnPath (net : Network) (ns : List ℕ) (t : Tally) (way : List ℕ) (n : ℕ) (bits known : List ℕ) : Type 0 where
+pub record OnPath (net : Network) (ns : List ℕ) (t : Summary) (way : List ℕ) (n : ℕ) (bits known : List ℕ) : Type 0 where
   pub stored : Stored net ns (t .count) (t .out)
   pub found : PathFound net (configAt ns t bits known) ns way n
-  pub tame : Tame t
+  pub in-limits : InLimits t
   pub sized : ConfigSized bits known
 
-abbrev pub OnSomePath : List ℕ → Tally → List ℕ → ℕ → List ℕ → List ℕ → Type 0
+abbrev pub OnSomePath : List ℕ → Summary → List ℕ → ℕ → List ℕ → List ℕ → Type 0
 OnSomePath ns t way n bits known = (net : Network) × OnPath net ns t way n bits known
 
 -- operation k loaded: its targets are noted, and the words hold the configuration after it
-pub record Loaded (ns : List ℕ) (t : Tally) (p : ScanPath) (scan : Bytes) (k : ℕ) (bits known first places bits′ known′ first′ places′ : List ℕ) : Type 0 where
+pub record Loaded (ns : List ℕ) (t : Summary) (p : ScanPath) (scan : Bytes) (k : ℕ) (bits known first places bits′ known′ first′ places′ : List ℕ) : Type 0 where
   pub as-long : length scan ≡ pathLength p
   pub after : configAt ns t bits′ known′ ≡ csu p (map byteBit scan) (configAt ns t bits known)
   pub noted : Noted p (t .«target_segment») (t .«target_count») k first places first′ places′
 
 -- what an answer says of the operation in the network
-abbrev pub OperatedAs : Network → List ℕ → Tally → ScanPath → Bytes → ℕ → List ℕ → List ℕ → List ℕ → List ℕ → Operated → List ℕ → List ℕ → List ℕ → List ℕ → List ℕ → Type 0
+abbrev pub OperatedAs : Network → List ℕ → Summary → ScanPath → Bytes → ℕ → List ℕ → List ℕ → List ℕ → List ℕ → Operated → List ℕ → List ℕ → List ℕ → List ℕ → List ℕ → Type 0
 OperatedAs net ns t p scan k bits known first places (Next n) way′ bits′ known′ first′ places′ =
     Loaded ns t p scan k bits known first places bits′ known′ first′ places′ × OnPath net ns t way′ n bits′ known′
 OperatedAs net ns t p scan k bits known first places WrongLength way′ bits′ known′ first′ places′ = length scan ≡ pathLength p → ⊥
 OperatedAs net ns t p scan k bits known first places NotValid way′ bits′ known′ first′ places′ =
     Loaded ns t p scan k bits known first places bits′ known′ first′ places′ × ((m : ℕ) × (walk net (configAt ns t bits′ known′) ≡ stop m))
 
-abbrev pub Operates : List ℕ → Tally → Bytes → ℕ → List ℕ → ℕ → List ℕ → List ℕ → List ℕ → List ℕ → Operated → List ℕ → List ℕ → List ℕ → List ℕ → List ℕ → Type 0
+abbrev pub Operates : List ℕ → Summary → Bytes → ℕ → List ℕ → ℕ → List ℕ → List ℕ → List ℕ → List ℕ → Operated → List ℕ → List ℕ → List ℕ → List ℕ → List ℕ → Type 0
 Operates ns t scan k way n bits known first places r way′ bits′ known′ first′ places′ =
     (net : Network) → OnPath net ns t way n bits known → OperatedAs net ns t (scanPath ns (take n way)) scan k bits known first places r way′ bits′ known′ first′ places′
 
 -- ---- all operations
 
 -- what an answer says of the model's run
-abbrev pub RanAs : List ℕ → Tally → Ran → List ℕ → List ℕ → List ℕ → List ℕ → Result Run → Type 0
+abbrev pub RanAs : List ℕ → Summary → Ran → List ℕ → List ℕ → List ℕ → List ℕ → Result Run → Type 0
 RanAs ns t r bits known first places (ok run) = (r ≡ Done) × (configAt ns t bits known ≡ run .last) × Reached t first places (run .paths) × ConfigSized bits known
 RanAs ns t r bits known first places (refused number at) = r ≡ Refused number at
 
-abbrev pub RunsFrom : List ℕ → Tally → Bytes → List ℕ → ℕ → List ℕ → List ℕ → Ran → List ℕ → List ℕ → List ℕ → List ℕ → Type 0
+abbrev pub RunsFrom : List ℕ → Summary → Bytes → List ℕ → ℕ → List ℕ → List ℕ → Ran → List ℕ → List ℕ → List ℕ → List ℕ → Type 0
 RunsFrom ns t text way n bits known r bits′ known′ first′ places′ =
     (net : Network) (plan : Plan) → readPlan text ≡ ok plan → OnPath net ns t way n bits known
     → RanAs ns t r bits′ known′ first′ places′ (runFrom net 1 (scanPath ns (take n way)) (configAt ns t bits known) plan)
@@ -104,20 +104,20 @@ RunsFrom ns t text way n bits known r bits′ known′ first′ places′ =
 -- ---- from the start
 
 -- the arrays hold the network and its start
-pub record Starts (net : Network) (ns : List ℕ) (t : Tally) (bits known : List ℕ) : Type 0 where
+pub record HoldsStart (net : Network) (ns : List ℕ) (t : Summary) (bits known : List ℕ) : Type 0 where
   pub stored : Stored net ns (t .count) (t .out)
   pub start : configAt ns t bits known ≡ net .start
-  pub tame : Tame t
+  pub in-limits : InLimits t
   pub sized : ConfigSized bits known
 
-abbrev pub Startable : List ℕ → Tally → List ℕ → List ℕ → Type 0
-Startable ns t bits known = (net : Network) × Starts net ns t bits known
+abbrev pub Startable : List ℕ → Summary → List ℕ → List ℕ → Type 0
+Startable ns t bits known = (net : Network) × HoldsStart net ns t bits known
 
 abbrev pub fromStart : Network → Plan → Walk → Result Run
 fromStart net plan (path p) = runFrom net 1 p (net .start) plan
 fromStart net plan (stop m) = refused 9 m
 
-abbrev pub Runs : List ℕ → Tally → Bytes → List ℕ → List ℕ → Ran → List ℕ → List ℕ → List ℕ → List ℕ → Type 0
+abbrev pub Runs : List ℕ → Summary → Bytes → List ℕ → List ℕ → Ran → List ℕ → List ℕ → List ℕ → List ℕ → Type 0
 Runs ns t text bits known r bits′ known′ first′ places′ =
-    (net : Network) (plan : Plan) → readPlan text ≡ ok plan → Starts net ns t bits known
+    (net : Network) (plan : Plan) → readPlan text ≡ ok plan → HoldsStart net ns t bits known
     → RanAs ns t r bits′ known′ first′ places′ (fromStart net plan (walk net (net .start)))

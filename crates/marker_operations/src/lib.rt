@@ -1,5 +1,5 @@
 // The operations of a plan in turn: 15 where the count of bits is not the path length, 16 where the configuration after it is not valid.
-use network_draft::store::Tally;
+use network_draft::store::Summary;
 use network_path::layout::Nodes;
 use network_path::layout::Way;
 use network_path::layout::Words;
@@ -83,7 +83,7 @@ enum Operated {
 // Operation k, with the path of n segments in way and the configuration in bits and known, which become those after it.
 fn run_operation<'a>(
     nodes: &'a Nodes,
-    t: Tally,
+    t: Summary,
     scan: &'a [u8],
     k: usize,
     way: &mut Way,
@@ -120,7 +120,7 @@ fn run_operation<'a>(
 // The operations of a plan text of good form, from the start's path in way; bits and known end as the last configuration.
 fn run_lines<'a>(
     nodes: &'a Nodes,
-    t: Tally,
+    t: Summary,
     plan: &'a [u8],
     way: &mut Way,
     count: usize,
@@ -153,7 +153,7 @@ fn run_lines<'a>(
 // The plan of a text of good form, from the start in bits and known, which end as the last configuration.
 pub fn run_plan<'a>(
     nodes: &'a Nodes,
-    t: Tally,
+    t: Summary,
     plan: &'a [u8],
     bits: &mut Words,
     known: &mut Words,

@@ -21,9 +21,9 @@ use Rattle.network_words.specs.Words.{tritsOf, byteBit, wordFrom, byteKnown}
 use Rattle.network_path.specs.Layout.{nodeAt}
 use Rattle.network_words.proofs.FieldLaws.{trits-of-field}
 use Rattle.text.proofs.Bits.{is-some, from-length}
-use Rattle.network_draft.specs.declared.store.Tally.{Tally}
+use Rattle.network_draft.specs.declared.store.Summary.{Summary}
 use Rattle.network_line.specs.Line.{bitsIn, valueOr}
-use Rattle.network_draft.specs.Draws.{Draws}
+use Rattle.network_draft.specs.Represents.{Represents}
 
 -- ---- the bits of a field of good form
 
@@ -35,7 +35,7 @@ bits-in-length one f e = omega (arith, from-length one f [] (bitsIn one f) (bits
 
 -- ---- segments of a draft
 
-module _ (ns bits known steering held : List ℕ) (t : Tally) (d : Draft) (n : ℕ) (w : Draws ns bits known steering held t d n) where
+module _ (ns bits known steering held : List ℕ) (t : Summary) (d : Draft) (n : ℕ) (w : Represents ns bits known steering held t d n) where
   -- a node without bits is no segment
   segment-long : (k : ℕ) (x : Node) → outside k x ≡ false → lenOf x ≡ 0 → isSegment x ≡ false
   segment-long k (segment from len s) e z = let a = or-parts (leb k from || ltb len 1) (ltb 32 len) e in let b = or-parts (leb k from) (ltb len 1) (a .0) in absurd (let l = ltb-false len 1 (b .1) in omega arith)
@@ -109,7 +109,7 @@ not-held other (h ∷ hs) s e = go (eqb (h .segmentNumber) s) e (λ f. not-held 
     go true f g = absurd (true-false f)
     go false f g = g f
 
-module _ (ns bits known steering held : List ℕ) (t : Tally) (d : Draft) (n : ℕ) (w : Draws ns bits known steering held t d n)
+module _ (ns bits known steering held : List ℕ) (t : Summary) (d : Draft) (n : ℕ) (w : Represents ns bits known steering held t d n)
     (s : ℕ) (f : Bytes) (form : isSome (bitsFrom trit [] f) ≡ true) (in-range : s ≤ 128) (len : length f ≡ lenOf (nodeAt ns s))
     (fresh : isHeld (d .holds) s ≡ false) (is : addHold d n s (bitsIn trit f) ≡ ok (withHold d s (bitsIn trit f))) where
   abbrev bits′ : List ℕ
@@ -154,7 +154,7 @@ module _ (ns bits known steering held : List ℕ) (t : Tally) (d : Draft) (n : �
           let ne : r ≡ s → ⊥ = λ z. eqb-false s r e (sym z) in
           rw (getD-set-other held s r 1 0 ne, getD-set-other bits s r (wordFrom byteBit 0 f) 0 ne, getD-set-other known s r (wordFrom byteKnown 0 f) 0 ne) (w .start-is r l other)
 
-  pub with-hold : Draws ns bits′ known′ steering held′ t (withHold d s (bitsIn trit f)) (suc n)
+  pub with-hold : Represents ns bits′ known′ steering held′ t (withHold d s (bitsIn trit f)) (suc n)
   with-hold = record {
     sized = record {
       nodes = w .sized .nodes;
@@ -163,7 +163,7 @@ module _ (ns bits known steering held : List ℕ) (t : Tally) (d : Draft) (n : �
       steering-words = w .sized .steering-words;
       held-flags = length-set held s 1 ∙ w .sized .held-flags;
     };
-    tame = w .tame;
+    in-limits = w .in-limits;
     nodes-are = w .nodes-are;
     total-is = w .total-is;
     out-is = w .out-is;

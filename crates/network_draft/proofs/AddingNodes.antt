@@ -1,4 +1,4 @@
--- A node line added: the refusals in order, and the arrays that then draw the longer draft.
+-- A node line added: the refusals in order, and the arrays that then represent the longer draft.
 -- Assumes nothing.
 use mathlib.Core.Path.{_≡_, sym, ap, _∙_}
 use mathlib.Core.Bool.{Bool, true, false, cond, _||_}
@@ -18,15 +18,15 @@ use Rattle.model.proofs.LineForms.{GoodForm}
 use Rattle.model.proofs.Reading.{Sound, Stage, no-out, behind-out, sound-node, total-more}
 use Rattle.network_words.specs.Words.{tritsOf}
 use Rattle.network_path.specs.Layout.{nodeAt, nodesOf}
-use Rattle.network_draft.specs.declared.store.Tally.{Tally}
+use Rattle.network_draft.specs.declared.store.Summary.{Summary}
 use Rattle.network_line.specs.declared.NodeData.{NodeData}
 use Rattle.network_line.specs.declared.NodeData.the-variants.{Segment, Multiplexer}
 use Rattle.network_line.specs.Line.{nodeFor, SmallNode}
-use Rattle.network_draft.specs.Store.{Row, RowStored, Marked}
-use Rattle.network_draft.specs.Draws.{Draws, targetAt, targetsOf}
+use Rattle.network_draft.specs.Store.{NodeNumbers, NumbersStored, Marked}
+use Rattle.network_draft.specs.Represents.{Represents, targetAt, targetsOf}
 use Rattle.network_line.proofs.Bounds.{by-count}
 use Rattle.network_draft.proofs.Nodes.{node-by-fields}
-use Rattle.network_draft.proofs.Drawing.{steers-more, drawn-count, drawn-targets, kept-node}
+use Rattle.network_draft.proofs.Representing.{steers-more, represented-count, represented-targets, kept-node}
 
 -- ---- the refusals
 
@@ -75,10 +75,10 @@ bare d n s e = go (s .stage)
 
 -- ---- the longer draft
 
-module _ (ns bits known steering held : List ℕ) (t : Tally) (d : Draft) (n : ℕ) (w : Draws ns bits known steering held t d n) (x : Node) (form : GoodForm x)
-    (row ns′ steering′ : List ℕ) (is-row : Row x row) (stored : RowStored ns (t .count + 1) row ns′) (marked : Marked steering x steering′)
+module _ (ns bits known steering held : List ℕ) (t : Summary) (d : Draft) (n : ℕ) (w : Represents ns bits known steering held t d n) (x : Node) (form : GoodForm x)
+    (numbers ns′ steering′ : List ℕ) (are-numbers : NodeNumbers x numbers) (stored : NumbersStored ns (t .count + 1) numbers ns′) (marked : Marked steering x steering′)
     (no : hasOut d ≡ false) (inside : outside n x ≡ false) (few : t .count < 128) (short : totalBits (d .nodes) + lenOf x ≤ 4000) where
-  abbrev t′ : Tally
+  abbrev t′ : Summary
   t′ = record {
     count = t .count + 1;
     total = t .total + lenOf x;
@@ -94,7 +94,7 @@ module _ (ns bits known steering held : List ℕ) (t : Tally) (d : Draft) (n : �
   its = bare d n (w .sound) no
 
   stored-node : nodeAt ns′ (t .count + 1) ≡ x
-  stored-node = node-by-fields ns′ row (t .count + 1) 0 (λ i h. stored .here i h ∙ ap (λ (k : ℕ). getD row k 0) (sym (zero-add i))) (is-row .kind) ∙ is-row .is
+  stored-node = node-by-fields ns′ numbers (t .count + 1) 0 (λ i h. stored .here i h ∙ ap (λ (k : ℕ). getD numbers k 0) (sym (zero-add i))) (are-numbers .kind) ∙ are-numbers .is
 
   nodes′ : nodesOf ns′ (t .count + 1) ≡ d .nodes ++ x ∷ []
   nodes′ =
@@ -102,12 +102,12 @@ module _ (ns bits known steering held : List ℕ) (t : Tally) (d : Draft) (n : �
       let f : 1 + t .count ≡ t .count + 1 = omega arith in
       ap (nodesOf ns′) e ∙ tabulate-snoc (nodeAt ns′) 1 (t .count)
       ∙ ap (λ (l : List Node). l ++ nodeAt ns′ (1 + t .count) ∷ [])
-      (tabulate-cong (nodeAt ns′) (nodeAt ns) 1 (t .count) (λ k l. kept-node ns bits known steering held t d n w row ns′ (t .count + 1) stored (omega arith) (1 + k) (omega arith) (omega arith)) ∙ w .nodes-are)
+      (tabulate-cong (nodeAt ns′) (nodeAt ns) 1 (t .count) (λ k l. kept-node ns bits known steering held t d n w numbers ns′ (t .count + 1) stored (omega arith) (1 + k) (omega arith) (omega arith)) ∙ w .nodes-are)
       ∙ ap (λ (y : Node). d .nodes ++ y ∷ []) (ap (nodeAt ns′) f ∙ stored-node)
 
   no-targets′ : targetsOf ns′ t′ ≡ d .targets
   no-targets′ =
-      let e : t .«target_count» ≡ 0 = sym (drawn-targets ns bits known steering held t d n w) ∙ ap length (its .no-targets) in
+      let e : t .«target_count» ≡ 0 = sym (represented-targets ns bits known steering held t d n w) ∙ ap length (its .no-targets) in
       ap (tabulate (targetAt ns′ t′) 0) e ∙ sym (its .no-targets)
 
   flag : (s : ℕ) → s ≤ 128 → eqb (getD held s 0) 1 ≡ false
@@ -119,7 +119,7 @@ module _ (ns bits known steering held : List ℕ) (t : Tally) (d : Draft) (n : �
   unfolding heldOr
   start′ s l other = ap (λ (hs : List Held). heldOr other hs s) (its .no-holds) ∙ ap (λ (b : Bool). cond b (tritsOf (lenOf (nodeAt ns′ s)) (getD bits s 0) (getD known s 0)) other) (sym (flag s l))
 
-  pub longer : Draws ns′ bits known steering′ held t′ (withNode d x) (suc n)
+  pub longer : Represents ns′ bits known steering′ held t′ (withNode d x) (suc n)
   longer = record {
     sized = record {
       nodes = stored .size ∙ w .sized .nodes;
@@ -128,13 +128,13 @@ module _ (ns bits known steering held : List ℕ) (t : Tally) (d : Draft) (n : �
       steering-words = marked .size ∙ w .sized .steering-words;
       held-flags = w .sized .held-flags;
     };
-    tame = record {
+    in-limits = record {
       nodes-fit = omega arith;
       bits-fit = omega (arith, w .total-is);
-      targets-fit = w .tame .targets-fit;
-      segments = w .tame .segments;
-      words = w .tame .words;
-      bits = w .tame .bits;
+      targets-fit = w .in-limits .targets-fit;
+      segments = w .in-limits .segments;
+      words = w .in-limits .words;
+      bits = w .in-limits .bits;
     };
     nodes-are = nodes′;
     total-is = ap (λ (k : ℕ). k + lenOf x) (w .total-is) ∙ sym (total-more (d .nodes) x);
@@ -144,5 +144,5 @@ module _ (ns bits known steering held : List ℕ) (t : Tally) (d : Draft) (n : �
     steering-small = marked .small (w .steering-small);
     held-is = w .held-is;
     start-is = start′;
-    sound = sound-node d (withNode d x) n x form (w .sound) (node-added d n x no inside (omega (arith, drawn-count ns bits known steering held t d n w)) short);
+    sound = sound-node d (withNode d x) n x form (w .sound) (node-added d n x no inside (omega (arith, represented-count ns bits known steering held t d n w)) short);
   }

@@ -10,8 +10,8 @@ use borrow.Author.Tests.{lt-ltb, le-ltb}
 use Rattle.model.specs.Result.{ok, refused}
 use Rattle.model.specs.NetworkText.{Draft, hasOut, firstBad, addOut, withOut, outIf}
 use Rattle.model.proofs.Reading.{sound-out}
-use Rattle.network_draft.specs.declared.store.Tally.{Tally}
-use Rattle.network_draft.specs.Draws.{Draws, ifNonzero}
+use Rattle.network_draft.specs.declared.store.Summary.{Summary}
+use Rattle.network_draft.specs.Represents.{Represents, ifNonzero}
 
 module _ (d : Draft) (n k : ℕ) where
   pub out-4 : hasOut d ≡ true → addOut d n k ≡ refused 4 n
@@ -38,8 +38,8 @@ module _ (d : Draft) (n k : ℕ) where
       pub out-added : m ≡ 0 → addOut d n k ≡ ok (withOut d k)
       out-added z = by-first h (ifNonzero m) (sym f) ∙ ap (λ (x : ℕ). outIf d k (ifNonzero x)) z
 
-module _ (ns bits known steering held : List ℕ) (t : Tally) (d : Draft) (n k : ℕ) (w : Draws ns bits known steering held t d n) (is : addOut d n k ≡ ok (withOut d k)) where
-  pub fed : Draws ns bits known steering held record {
+module _ (ns bits known steering held : List ℕ) (t : Summary) (d : Draft) (n k : ℕ) (w : Represents ns bits known steering held t d n) (is : addOut d n k ≡ ok (withOut d k)) where
+  pub fed : Represents ns bits known steering held record {
     count = t .count;
     total = t .total;
     «has_out» = true;
@@ -51,13 +51,13 @@ module _ (ns bits known steering held : List ℕ) (t : Tally) (d : Draft) (n k :
   } (withOut d k) (suc n)
   fed = record {
     sized = w .sized;
-    tame = record {
-      nodes-fit = w .tame .nodes-fit;
-      bits-fit = w .tame .bits-fit;
-      targets-fit = w .tame .targets-fit;
-      segments = w .tame .segments;
-      words = w .tame .words;
-      bits = w .tame .bits;
+    in-limits = record {
+      nodes-fit = w .in-limits .nodes-fit;
+      bits-fit = w .in-limits .bits-fit;
+      targets-fit = w .in-limits .targets-fit;
+      segments = w .in-limits .segments;
+      words = w .in-limits .words;
+      bits = w .in-limits .bits;
     };
     nodes-are = w .nodes-are;
     total-is = w .total-is;

@@ -20,11 +20,11 @@ use Rattle.model.proofs.Reading.{Stage, no-out, behind-out, sound-target}
 use Rattle.model.proofs.Accepted.{no-bad, unsteered-bits}
 use Rattle.network_words.specs.Words.{wordWidth, wordBit}
 use Rattle.network_path.specs.Layout.{nodeAt}
-use Rattle.network_draft.specs.declared.store.Tally.{Tally}
+use Rattle.network_draft.specs.declared.store.Summary.{Summary}
 use Rattle.network_draft.specs.declared.add.Refusal.{Refusal}
-use Rattle.network_draft.specs.Draws.{Draws, targetAt, targetsOf, targetFor, sameWord, Agrees}
+use Rattle.network_draft.specs.Represents.{Represents, targetAt, targetsOf, targetFor, sameWord, Agrees}
 use Rattle.network_draft.specs.Added.{IsWord}
-use Rattle.network_draft.proofs.Drawing.{drawn-short}
+use Rattle.network_draft.proofs.Representing.{represented-short}
 
 -- ---- a repeat
 
@@ -45,7 +45,7 @@ same-read seg word s w e f = rw (eq-eqb seg s e, f) (by (eqb word 1))
     by true = refl
     by false = refl
 
-module _ (ns : List ℕ) (t : Tally) (s : ℕ) (w : Bool) (bs : List Bool) where
+module _ (ns : List ℕ) (t : Summary) (s : ℕ) (w : Bool) (bs : List Bool) where
   abbrev X : Target
   X = targetFor w s bs
 
@@ -134,7 +134,7 @@ module _ (all : List Node) (short : (s : ℕ) → lenOf (at all s noNode) ≤ wo
       go true q g r = let b = node-bit x s (f 0 (omega arith)) q in record { b = b .0; is = here x ns s (b .0) (b .1); small = b .2 }
       go false q g r = let b = r g in record { b = b .b; is = there x ns s (b .b) (b .is); small = b .small }
 
-module _ (ns bits known steering held : List ℕ) (t : Tally) (d : Draft) (n : ℕ) (w : Draws ns bits known steering held t d n) (out : hasOut d ≡ true) where
+module _ (ns bits known steering held : List ℕ) (t : Summary) (d : Draft) (n : ℕ) (w : Represents ns bits known steering held t d n) (out : hasOut d ≡ true) where
   no-first : (i : ℕ) → i < length (d .nodes) → badAddress (d .nodes) (getD (d .nodes) i noNode) ≡ false
   no-first = go (w .sound .stage)
     where
@@ -148,7 +148,7 @@ module _ (ns bits known steering held : List ℕ) (t : Tally) (d : Draft) (n : �
       go : (b : Bool) → isSteering (d .nodes) s ≡ b → isSteering (d .nodes) s ≡ false
       go false q = q
       go true q =
-          let b = find-bit (d .nodes) (drawn-short ns bits known steering held t d n w) (d .nodes) s no-first q in
+          let b = find-bit (d .nodes) (represented-short ns bits known steering held t d n w) (d .nodes) s no-first q in
           absurd (true-false (sym (b .is) ∙ sym (w .steering-is s (b .b) l (b .small)) ∙ zero-bit (getD steering s 0) (b .b) e))
 
   pub is-steering : (s : ℕ) → s ≤ 128 → (getD steering s 0 ≡ 0 → ⊥) → isSteering (d .nodes) s ≡ true
@@ -193,13 +193,13 @@ segment-of false s bs = refl
 
 -- ---- one target more
 
-module _ (ns bits known steering held : List ℕ) (t : Tally) (d : Draft) (n : ℕ) (w : Draws ns bits known steering held t d n)
+module _ (ns bits known steering held : List ℕ) (t : Summary) (d : Draft) (n : ℕ) (w : Represents ns bits known steering held t d n)
     (s : ℕ) (k : Bool) (word : ℕ) (bs : List Bool) (is-word : IsWord ns k s word bs) (room : t .«target_count» < 4)
     (is : addTarget d n (targetFor k s bs) ≡ ok (withTarget d (targetFor k s bs))) where
   abbrev c : ℕ
   c = t .«target_count»
 
-  abbrev t′ : Tally
+  abbrev t′ : Summary
   t′ = record {
     count = t .count;
     total = t .total;
@@ -219,9 +219,9 @@ module _ (ns bits known steering held : List ℕ) (t : Tally) (d : Draft) (n : �
   new-target : targetAt ns t′ c ≡ targetFor k s bs
   new-target =
       rw (
-        getD-set-same (t .«target_segment») c s 0 (omega (arith, w .tame .segments)),
-        getD-set-same (t .«target_write») c (cond k 1 0) 0 (omega (arith, w .tame .words)),
-        getD-set-same (t .«target_bits») c word 0 (omega (arith, w .tame .bits)),
+        getD-set-same (t .«target_segment») c s 0 (omega (arith, w .in-limits .segments)),
+        getD-set-same (t .«target_write») c (cond k 1 0) 0 (omega (arith, w .in-limits .words)),
+        getD-set-same (t .«target_bits») c word 0 (omega (arith, w .in-limits .bits)),
       ) (go k is-word)
     where
       go : (k : Bool) → IsWord ns k s word bs → cond (eqb (cond k 1 0) 1) (write s (tabulate (wordBit word) 0 (lenOf (nodeAt ns s)))) (read s) ≡ targetFor k s bs
@@ -236,16 +236,16 @@ module _ (ns bits known steering held : List ℕ) (t : Tally) (d : Draft) (n : �
       (tabulate-cong (targetAt ns t′) (targetAt ns t) 0 c (λ x l. let z : 0 + x < c = omega arith in old-target (0 + x) z) ∙ w .targets-are)
       ∙ ap (λ (x : Target). d .targets ++ x ∷ []) (ap (targetAt ns t′) (zero-add c) ∙ new-target)
 
-  pub with-target : Draws ns bits known steering held t′ (withTarget d (targetFor k s bs)) (suc n)
+  pub with-target : Represents ns bits known steering held t′ (withTarget d (targetFor k s bs)) (suc n)
   with-target = record {
     sized = w .sized;
-    tame = record {
-      nodes-fit = w .tame .nodes-fit;
-      bits-fit = w .tame .bits-fit;
+    in-limits = record {
+      nodes-fit = w .in-limits .nodes-fit;
+      bits-fit = w .in-limits .bits-fit;
       targets-fit = omega arith;
-      segments = length-set (t .«target_segment») c s ∙ w .tame .segments;
-      words = length-set (t .«target_write») c (cond k 1 0) ∙ w .tame .words;
-      bits = length-set (t .«target_bits») c word ∙ w .tame .bits;
+      segments = length-set (t .«target_segment») c s ∙ w .in-limits .segments;
+      words = length-set (t .«target_write») c (cond k 1 0) ∙ w .in-limits .words;
+      bits = length-set (t .«target_bits») c word ∙ w .in-limits .bits;
     };
     nodes-are = w .nodes-are;
     total-is = w .total-is;

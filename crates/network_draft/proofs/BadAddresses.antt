@@ -16,7 +16,7 @@ use Rattle.model.specs.NetworkText.{badAddress, firstBad}
 use Rattle.model.proofs.Lists.{length-tabulate, getD-tabulate}
 use Rattle.network_path.specs.Layout.{fieldAt, inputsAt, nodeAt, nodesOf}
 use Rattle.network_path.proofs.NodeLaws.{segment-at, mux-at}
-use Rattle.network_draft.specs.Draws.{ifNonzero}
+use Rattle.network_draft.specs.Represents.{ifNonzero}
 
 -- ---- a node by its number
 

@@ -1,6 +1,6 @@
 -- Laws of the draft and of the lines that are added to it.
 pub mod Nodes
-pub mod Drawing
+pub mod Representing
 pub mod AddingNodes
 pub mod BadAddresses
 pub mod AddingOut

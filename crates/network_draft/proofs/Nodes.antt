@@ -20,7 +20,7 @@ use Rattle.network_path.specs.Layout.{fieldAt, nodeAt}
 use Rattle.network_words.proofs.WordTests.{wordBit-or, wordBit-pow}
 use Rattle.network_line.specs.Line.{inputsOf}
 use Rattle.network_line.proofs.Bounds.{by-count}
-use Rattle.network_draft.specs.Store.{Row, RowStored, Small, BitMarked, Marked}
+use Rattle.network_draft.specs.Store.{NodeNumbers, NumbersStored, Small, BitMarked, Marked}
 
 -- ---- the eight numbers
 
@@ -35,44 +35,44 @@ node-by-fields ns ms k j e small =
     tabulate-cong _ _ 0 (fieldAt ms j 0) (λ x l. e (4 + (0 + x)) (omega arith)) in
     rw (e0, e1, e2, ins)
 
-pub segment-row : (from len : ℕ) (s : Bool) → Row (segment from len s) (cond s 1 0 ∷ from ∷ len ∷ 0 ∷ 0 ∷ 0 ∷ 0 ∷ 0 ∷ [])
+pub segment-numbers : (from len : ℕ) (s : Bool) → NodeNumbers (segment from len s) (cond s 1 0 ∷ from ∷ len ∷ 0 ∷ 0 ∷ 0 ∷ 0 ∷ 0 ∷ [])
 unfolding nodeAt
-segment-row from len true = record { size = refl; kind = omega arith; is = refl }
-segment-row from len false = record { size = refl; kind = omega arith; is = refl }
+segment-numbers from len true = record { size = refl; kind = omega arith; is = refl }
+segment-numbers from len false = record { size = refl; kind = omega arith; is = refl }
 
-pub mux-row : (n s b i0 i1 i2 i3 : ℕ) → 2 ≤ n → n ≤ 4 → Row (multiplexer s b (inputsOf n i0 i1 i2 i3)) (n ∷ s ∷ b ∷ 0 ∷ i0 ∷ i1 ∷ i2 ∷ i3 ∷ [])
+pub mux-numbers : (n s b i0 i1 i2 i3 : ℕ) → 2 ≤ n → n ≤ 4 → NodeNumbers (multiplexer s b (inputsOf n i0 i1 i2 i3)) (n ∷ s ∷ b ∷ 0 ∷ i0 ∷ i1 ∷ i2 ∷ i3 ∷ [])
 unfolding nodeAt
-mux-row n s b i0 i1 i2 i3 lo hi =
-    by-count (λ k. Row (multiplexer s b (inputsOf k i0 i1 i2 i3)) (k ∷ s ∷ b ∷ 0 ∷ i0 ∷ i1 ∷ i2 ∷ i3 ∷ [])) n lo hi
+mux-numbers n s b i0 i1 i2 i3 lo hi =
+    by-count (λ k. NodeNumbers (multiplexer s b (inputsOf k i0 i1 i2 i3)) (k ∷ s ∷ b ∷ 0 ∷ i0 ∷ i1 ∷ i2 ∷ i3 ∷ [])) n lo hi
     (record { size = refl; kind = omega arith; is = refl })
     (record { size = refl; kind = omega arith; is = refl })
     (record { size = refl; kind = omega arith; is = refl })
 
 -- the first i of the eight numbers are stored
-pub record Storing (ns : List ℕ) (k : ℕ) (row : List ℕ) (i : ℕ) (ns′ : List ℕ) : Type 0 where
+pub record Storing (ns : List ℕ) (k : ℕ) (numbers : List ℕ) (i : ℕ) (ns′ : List ℕ) : Type 0 where
   pub size : length ns′ ≡ length ns
-  pub here : (x : ℕ) → x < i → getD ns′ (k * 8 + x) 0 ≡ getD row x 0
+  pub here : (x : ℕ) → x < i → getD ns′ (k * 8 + x) 0 ≡ getD numbers x 0
   pub others : (y : ℕ) → ((x : ℕ) → x < i → y ≡ k * 8 + x → ⊥) → getD ns′ y 0 ≡ getD ns y 0
 
-pub storing-none : (ns : List ℕ) (k : ℕ) (row : List ℕ) → Storing ns k row 0 ns
-storing-none ns k row = record { size = refl; here = λ x l. absurd (omega arith); others = λ y f. refl }
+pub storing-none : (ns : List ℕ) (k : ℕ) (numbers : List ℕ) → Storing ns k numbers 0 ns
+storing-none ns k numbers = record { size = refl; here = λ x l. absurd (omega arith); others = λ y f. refl }
 
-pub storing-more : (ns : List ℕ) (k : ℕ) (row : List ℕ) (i : ℕ) (ns′ : List ℕ) → length ns ≡ 1032 → k ≤ 128 → i < 8 → Storing ns k row i ns′
-    → Storing ns k row (i + 1) (set ns′ (k * 8 + i) (getD row i 0))
-storing-more ns k row i ns′ long hk hi p = record {
-  size = length-set ns′ (k * 8 + i) (getD row i 0) ∙ p .size;
+pub storing-more : (ns : List ℕ) (k : ℕ) (numbers : List ℕ) (i : ℕ) (ns′ : List ℕ) → length ns ≡ 1032 → k ≤ 128 → i < 8 → Storing ns k numbers i ns′
+    → Storing ns k numbers (i + 1) (set ns′ (k * 8 + i) (getD numbers i 0))
+storing-more ns k numbers i ns′ long hk hi p = record {
+  size = length-set ns′ (k * 8 + i) (getD numbers i 0) ∙ p .size;
   here = λ x l. here x l (decLt x i);
-  others = λ y f. getD-set-other ns′ (k * 8 + i) y (getD row i 0) 0 (λ z. f i (omega arith) z) ∙ p .others y (λ x l z. f x (omega arith) z);
+  others = λ y f. getD-set-other ns′ (k * 8 + i) y (getD numbers i 0) 0 (λ z. f i (omega arith) z) ∙ p .others y (λ x l z. f x (omega arith) z);
 }
   where
-    here : (x : ℕ) → x < i + 1 → Dec (x < i) → getD (set ns′ (k * 8 + i) (getD row i 0)) (k * 8 + x) 0 ≡ getD row x 0
-    here x l (yes h) = getD-set-other ns′ (k * 8 + i) (k * 8 + x) (getD row i 0) 0 (λ z. omega arith) ∙ p .here x h
+    here : (x : ℕ) → x < i + 1 → Dec (x < i) → getD (set ns′ (k * 8 + i) (getD numbers i 0)) (k * 8 + x) 0 ≡ getD numbers x 0
+    here x l (yes h) = getD-set-other ns′ (k * 8 + i) (k * 8 + x) (getD numbers i 0) 0 (λ z. omega arith) ∙ p .here x h
     here x l (no h) =
         let e : x ≡ i = omega arith in
-        rw e (getD-set-same ns′ (k * 8 + i) (getD row i 0) 0 (omega (arith, p .size)))
+        rw e (getD-set-same ns′ (k * 8 + i) (getD numbers i 0) 0 (omega (arith, p .size)))
 
-pub storing-all : (ns : List ℕ) (k : ℕ) (row : List ℕ) (i : ℕ) (ns′ : List ℕ) → 8 ≤ i → i ≤ 8 → Storing ns k row i ns′ → RowStored ns k row ns′
-storing-all ns k row i ns′ lo hi p = record {
+pub storing-all : (ns : List ℕ) (k : ℕ) (numbers : List ℕ) (i : ℕ) (ns′ : List ℕ) → 8 ≤ i → i ≤ 8 → Storing ns k numbers i ns′ → NumbersStored ns k numbers ns′
+storing-all ns k numbers i ns′ lo hi p = record {
   size = p .size;
   here = λ x l. p .here x (omega arith);
   others = λ j x ne l. p .others (j * 8 + x) (λ y m z. ne (omega arith));

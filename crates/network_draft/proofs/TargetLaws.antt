@@ -11,14 +11,14 @@ use Rattle.model.specs.NetworkText.{targetSegment, fitsTarget}
 use Rattle.model.proofs.Lists.{and-parts}
 use Rattle.network_words.specs.Words.{wordBit}
 use Rattle.network_path.specs.Layout.{nodeAt}
-use Rattle.network_draft.specs.declared.store.Tally.{Tally}
-use Rattle.network_draft.specs.Draws.{targetAt}
+use Rattle.network_draft.specs.declared.store.Summary.{Summary}
+use Rattle.network_draft.specs.Represents.{targetAt}
 
 pub fits-segment : (ns : List Node) (t : Target) → fitsTarget ns t ≡ true → isSegment (at ns (targetSegment t) noNode) ≡ true
 fits-segment ns (read s) e = e
 fits-segment ns (write s bs) e = and-parts (isSegment (at ns s noNode)) _ e .0
 
-pub target-names : (ns : List ℕ) (t : Tally) (i : ℕ) → targetSegment (targetAt ns t i) ≡ getD (t .«target_segment») i 0
+pub target-names : (ns : List ℕ) (t : Summary) (i : ℕ) → targetSegment (targetAt ns t i) ≡ getD (t .«target_segment») i 0
 target-names ns t i = go (eqb (getD (t .«target_write») i 0) 1)
   where
     s : ℕ

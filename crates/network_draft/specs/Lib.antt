@@ -1,4 +1,4 @@
 -- What the arrays and counts of a draft mean, and what adding a line to it answers.
 pub mod Store
-pub mod Draws
+pub mod Represents
 pub mod Added

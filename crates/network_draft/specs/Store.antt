@@ -11,15 +11,15 @@ use Rattle.network_words.specs.Words.{wordWidth, wordBit}
 use Rattle.network_path.specs.Layout.{fieldAt, nodeAt}
 
 -- eight numbers that are a node
-pub record Row (x : Node) (row : List ℕ) : Type 0 where
-  pub size : length row ≡ 8
-  pub kind : getD row 0 0 ≤ 4
-  pub is : nodeAt row 0 ≡ x
+pub record NodeNumbers (x : Node) (numbers : List ℕ) : Type 0 where
+  pub size : length numbers ≡ 8
+  pub kind : getD numbers 0 0 ≤ 4
+  pub is : nodeAt numbers 0 ≡ x
 
 -- node k has these eight numbers, and every other node its own
-pub record RowStored (ns : List ℕ) (k : ℕ) (row ns′ : List ℕ) : Type 0 where
+pub record NumbersStored (ns : List ℕ) (k : ℕ) (numbers ns′ : List ℕ) : Type 0 where
   pub size : length ns′ ≡ length ns
-  pub here : (i : ℕ) → i < 8 → fieldAt ns′ k i ≡ getD row i 0
+  pub here : (i : ℕ) → i < 8 → fieldAt ns′ k i ≡ getD numbers i 0
   pub others : (j i : ℕ) → (j ≡ k → ⊥) → i < 8 → fieldAt ns′ j i ≡ fieldAt ns j i
 
 -- each number fits a word

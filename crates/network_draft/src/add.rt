@@ -1,11 +1,11 @@
 // One line more: each kind of line, with its refusals in order.
 use crate::bad::first_bad;
-use crate::store::Tally;
+use crate::store::Summary;
 use crate::store::flag_of;
 use crate::store::mark_steering;
 use crate::store::narrow;
-use crate::store::row_of;
-use crate::store::store_row;
+use crate::store::numbers_of;
+use crate::store::store_numbers;
 use network_line::NodeData;
 use network_line::node::bits_of;
 use network_line::node::is_outside;
@@ -19,7 +19,7 @@ ghost use lib.ListN.{length};
 ghost use mathlib.Core.Path.{_≡_};
 ghost use Rattle.network_line.specs.Line.{SmallNode};
 ghost use Prim.Native.Nat.{_≤_};
-ghost use Rattle.network_draft.specs.Draws.{Tame, Formed, Short, sameWord, IsThere};
+ghost use Rattle.network_draft.specs.Represents.{InLimits, Formed, Short, sameWord, IsThere};
 ghost use Rattle.network_draft.specs.Added.{NodeAdded, OutAdded, HoldAdded, TargetAdded, ReadAdded, WriteAdded};
 ghost use Rattle.model.specs.Network.{lenOf};
 ghost use Rattle.model.specs.Path.{nodeOf};
@@ -34,21 +34,21 @@ pub enum Refusal {
 // What a line leaves: a refusal or none, and the counts and targets.
 pub struct Added {
     pub refusal: Refusal,
-    pub tally: Tally,
+    pub summary: Summary,
 }
 
-fn refuse(t: Tally, number: usize, place: usize) -> Added
+fn refuse(t: Summary, number: usize, place: usize) -> Added
     ensures { λ r. ⌜ r .refusal ≡ Refusal.Refused number place ⌝ }
 {
     Added {
         refusal: Refusal::Refused(number, place),
-        tally: t,
+        summary: t,
     }
 }
 
 // A node line: 4, 2, 3.
-pub fn add_node(nodes: &mut Nodes, steering: &mut Words, t: Tally, n: usize, x: NodeData) -> Added
-    requires { ⌜ (SmallNode x) × (Tame t) × (length (now nodes) ≡ 1032) × (length (now steering) ≡ 129) ⌝ }
+pub fn add_node(nodes: &mut Nodes, steering: &mut Words, t: Summary, n: usize, x: NodeData) -> Added
+    requires { ⌜ (SmallNode x) × (InLimits t) × (length (now nodes) ≡ 1032) × (length (now steering) ≡ 129) ⌝ }
     ensures { λ r. ⌜ NodeAdded (now (nodes .entry)) (now (steering .entry)) t n x r (now (nodes .exit)) (now (steering .exit)) ⌝ }
 {
     if t.has_out {
@@ -67,20 +67,20 @@ pub fn add_node(nodes: &mut Nodes, steering: &mut Words, t: Tally, n: usize, x: 
         return refuse(t, 3, n);
     }
     let k = count + 1;
-    store_row(nodes, k, row_of(x));
+    store_numbers(nodes, k, numbers_of(x));
     mark_steering(steering, x);
     let mut next = t;
     next.count = k;
     next.total = total + len;
     Added {
         refusal: Refusal::Nothing,
-        tally: next,
+        summary: next,
     }
 }
 
 // An `out` line: 4, 2, 5.
-pub fn add_out(nodes: &Nodes, t: Tally, n: usize, k: usize) -> Added
-    requires { ⌜ (Tame t) × Formed (now nodes) (t .count) ⌝ }
+pub fn add_out(nodes: &Nodes, t: Summary, n: usize, k: usize) -> Added
+    requires { ⌜ (InLimits t) × Formed (now nodes) (t .count) ⌝ }
     ensures { λ r. ⌜ OutAdded (now (nodes .entry)) t n k r ⌝ }
 {
     if t.has_out {
@@ -99,7 +99,7 @@ pub fn add_out(nodes: &Nodes, t: Tally, n: usize, k: usize) -> Added
     next.out = k;
     Added {
         refusal: Refusal::Nothing,
-        tally: next,
+        summary: next,
     }
 }
 
@@ -123,12 +123,12 @@ pub fn add_hold<'a>(
     bits: &mut Words,
     known: &mut Words,
     held: &mut [u16; 129],
-    t: Tally,
+    t: Summary,
     n: usize,
     s: usize,
     f: &'a [u8],
 ) -> Refusal
-    requires { ⌜ (Tame t) × Short (now nodes) (t .count) × (length (now bits) ≡ 129) × (length (now known) ≡ 129) × (length (now held) ≡ 129) ⌝ }
+    requires { ⌜ (InLimits t) × Short (now nodes) (t .count) × (length (now bits) ≡ 129) × (length (now known) ≡ 129) × (length (now held) ≡ 129) ⌝ }
     ensures { λ r. ⌜ HoldAdded (now (nodes .entry)) (now (bits .entry)) (now (known .entry)) (now (held .entry)) t n s (now (f .entry)) r (now (bits .exit)) (now (known .exit)) (now (held .exit)) ⌝ }
 {
     if !t.has_out {
@@ -152,8 +152,8 @@ pub fn add_hold<'a>(
 }
 
 // Whether segment s is a target of this word already.
-fn has_target(t: Tally, s: usize, write: bool) -> bool
-    requires { ⌜ Tame t ⌝ }
+fn has_target(t: Summary, s: usize, write: bool) -> bool
+    requires { ⌜ InLimits t ⌝ }
     ensures { λ r. ⌜ IsThere t s write r ⌝ }
 {
     let count = t.target_count;
@@ -180,8 +180,8 @@ fn is_same(segment: u16, word: u16, s: usize, write: bool) -> bool
 }
 
 // A target whose segment and bits are right: 6 for a repeat, 7, 8.
-fn add_target(steering: &Words, t: Tally, n: usize, s: usize, write: bool, bits: Word) -> Added
-    requires { ⌜ (Tame t) × (s ≤ 128) ⌝ }
+fn add_target(steering: &Words, t: Summary, n: usize, s: usize, write: bool, bits: Word) -> Added
+    requires { ⌜ (InLimits t) × (s ≤ 128) ⌝ }
     ensures { λ r. ⌜ TargetAdded (now (steering .entry)) t n s write bits r ⌝ }
 {
     if has_target(t, s, write) {
@@ -201,13 +201,13 @@ fn add_target(steering: &Words, t: Tally, n: usize, s: usize, write: bool, bits:
     next.target_count = at + 1;
     Added {
         refusal: Refusal::Nothing,
-        tally: next,
+        summary: next,
     }
 }
 
 // A `read` line: 4, 6, then as for every target.
-pub fn add_read<'a>(nodes: &'a Nodes, steering: &'a Words, t: Tally, n: usize, s: usize) -> Added
-    requires { ⌜ Tame t ⌝ }
+pub fn add_read<'a>(nodes: &'a Nodes, steering: &'a Words, t: Summary, n: usize, s: usize) -> Added
+    requires { ⌜ InLimits t ⌝ }
     ensures { λ r. ⌜ ReadAdded (now (nodes .entry)) (now (steering .entry)) t n s r ⌝ }
 {
     if !t.has_out {
@@ -224,12 +224,12 @@ pub fn add_read<'a>(nodes: &'a Nodes, steering: &'a Words, t: Tally, n: usize, s
 pub fn add_write<'a>(
     nodes: &'a Nodes,
     steering: &'a Words,
-    t: Tally,
+    t: Summary,
     n: usize,
     s: usize,
     f: &'a [u8],
 ) -> Added
-    requires { ⌜ (Tame t) × Short (now nodes) (t .count) ⌝ }
+    requires { ⌜ (InLimits t) × Short (now nodes) (t .count) ⌝ }
     ensures { λ r. ⌜ WriteAdded (now (nodes .entry)) (now (steering .entry)) t n s (now (f .entry)) r ⌝ }
 {
     if !t.has_out {

@@ -9,7 +9,7 @@ ghost use mathlib.Core.Path.{_≡_};
 ghost use Prim.Native.Nat.{_≤_};
 ghost use Rattle.model.specs.NetworkText.{badAddress, firstBad};
 ghost use Rattle.network_path.specs.Layout.{nodeAt, nodesOf};
-ghost use Rattle.network_draft.specs.Draws.{Formed, ifNonzero};
+ghost use Rattle.network_draft.specs.Represents.{Formed, ifNonzero};
 
 // Whether node k of count is such a multiplexer.
 fn is_bad(nodes: &Nodes, count: usize, k: usize) -> bool

@@ -10,10 +10,10 @@ ghost use mathlib.Core.Bool.{cond};
 ghost use Prim.Native.Nat.{_≤_};
 ghost use lib.ListN.{length};
 ghost use Rattle.network_line.specs.Line.{nodeFor, SmallNode};
-ghost use Rattle.network_draft.specs.Store.{Row, RowStored, Marked, BitMarked};
+ghost use Rattle.network_draft.specs.Store.{NodeNumbers, NumbersStored, Marked, BitMarked};
 
 // Counts, the node that feeds scan-out, and the targets: a target's word is 1 for `write` and 0 for `read`.
-pub struct Tally {
+pub struct Summary {
     pub count: usize,
     pub total: usize,
     pub has_out: bool,
@@ -42,9 +42,9 @@ pub fn flag_of(flag: bool) -> u16
 }
 
 // The eight numbers of a node.
-pub fn row_of(x: NodeData) -> [u16; 8]
+pub fn numbers_of(x: NodeData) -> [u16; 8]
     requires { ⌜ SmallNode x ⌝ }
-    ensures { λ r. ⌜ Row (nodeFor x) r ⌝ }
+    ensures { λ r. ⌜ NodeNumbers (nodeFor x) r ⌝ }
 {
     match x {
         NodeData::Segment { from, len, shadow } => {
@@ -72,14 +72,14 @@ pub fn row_of(x: NodeData) -> [u16; 8]
 }
 
 // The eight numbers go to node k.
-pub fn store_row(nodes: &mut Nodes, k: usize, row: [u16; 8])
-    requires { ⌜ (k ≤ 128) × (length (now nodes) ≡ 1032) × (length row ≡ 8) ⌝ }
-    ensures { λ _. ⌜ RowStored (now (nodes .entry)) k row (now (nodes .exit)) ⌝ }
+pub fn store_numbers(nodes: &mut Nodes, k: usize, numbers: [u16; 8])
+    requires { ⌜ (k ≤ 128) × (length (now nodes) ≡ 1032) × (length numbers ≡ 8) ⌝ }
+    ensures { λ _. ⌜ NumbersStored (now (nodes .entry)) k numbers (now (nodes .exit)) ⌝ }
 {
     let base = k * 8;
     let mut i: usize = 0;
     while i < 8 {
-        nodes[base + i] = row[i];
+        nodes[base + i] = numbers[i];
         i += 1;
     }
 }

@@ -11,7 +11,7 @@ ghost use lib.ListN.{length};
 ghost use Rattle.model.specs.Text.{fields, Seg, Mux, Out, Hold, Write, Read};
 ghost use Rattle.model.specs.NetworkText.{field, kind, lineBy};
 ghost use Rattle.text.specs.Numbers.{IsDecimal};
-ghost use Rattle.text.specs.Places.{Starts};
+ghost use Rattle.text.specs.Places.{FieldStarts};
 ghost use Rattle.network_line.specs.Line.{kindFor, Placed, AreDecimals, IsEntry, plainLine, IsParsed, IsLine};
 
 // A node is a segment or a multiplexer, and each kind has its own fields. An input that a multiplexer lacks is 0.
@@ -77,7 +77,7 @@ fn kind_of(f: &[u8]) -> Kind
 
 // The number of field k.
 fn number(line: &[u8], starts: &[usize; 8], k: usize) -> Number
-    requires { ⌜ (k < 7) × (k < length (fields (now line))) × Starts (now line) (now starts) ⌝ }
+    requires { ⌜ (k < 7) × (k < length (fields (now line))) × FieldStarts (now line) (now starts) ⌝ }
     ensures { λ r. ⌜ IsDecimal (field (fields (now (line .entry))) k) r ⌝ }
 {
     text::decimal_of(text::field(line, starts, k))

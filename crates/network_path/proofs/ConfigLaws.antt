@@ -17,7 +17,7 @@ use Rattle.model.proofs.Lists.{length-tabulate, getD-tabulate, true-false}
 use Rattle.model.proofs.WellFormed.{GoodNode, GoodMux}
 use Rattle.network_words.specs.Words.{wordWidth, tritAt, tritsOf}
 use Rattle.network_path.specs.Layout.{nodeAt, nodesOf, configOf, lookIn, SafeNode, Safe}
-use Rattle.network_path.specs.Answers.{stepTo, stepOf, told, Found}
+use Rattle.network_path.specs.Answers.{stepTo, stepOf, told, FindsPath}
 use Rattle.network_path.specs.declared.walk.Step.{Step}
 use Rattle.network_path.specs.declared.walk.Step.the-variants.{Segment, Input, Stop}
 use Rattle.network_path.specs.declared.walk.Walked.{Walked}
@@ -149,6 +149,6 @@ module _ (ns : List ℕ) (count : ℕ) (most : count ≤ 128)
         })
 
     -- what `find_path` answers
-    pub found-config : (out : ℕ) (r : Walked) (way : List ℕ) → out ≤ count → Found ns bits known out r way
+    pub found-config : (out : ℕ) (r : Walked) (way : List ℕ) → out ≤ count → FindsPath ns bits known out r way
         → walkFrom (nodeOf (nodesOf ns count)) (bitOf (configOf ns bits known count)) out out ≡ told ns way r
     found-config out r way l f = walk-config out out l ∙ f .tells

@@ -17,7 +17,7 @@ use Rattle.model.specs.Path.{path, pathLength, place, on, ScanPath}
 use Rattle.model.specs.Text.{bind}
 use Rattle.network_words.specs.Words.{wordWidth}
 use Rattle.network_path.specs.Layout.{nodeAt, scanPath, Way}
-use Rattle.network_path.specs.Answers.{Walkable, Walks, toldFrom, FallsFrom, HoldsPath, told, WalkHeld, Found}
+use Rattle.network_path.specs.Answers.{Walkable, Walks, toldFrom, FallsFrom, HoldsPath, told, WalkHeld, FindsPath}
 use Rattle.network_path.specs.declared.walk.Walked.{Walked}
 use Rattle.network_path.specs.declared.walk.Walked.the-variants.{Path, Stop as Stopped}
 use Rattle.network_path.proofs.WalkLaws.{way-up}
@@ -25,7 +25,7 @@ use Rattle.network_path.proofs.WalkLaws.{way-up}
 -- ---- the whole walk
 
 module _ (ns bits known : List ℕ) (out : ℕ) (old : List ℕ) (r : Walked) (way : List ℕ) (asked : Walkable ns out old 0) (w : Walks ns bits known out old 0 r way) where
-  pub found : Found ns bits known out r way
+  pub found : FindsPath ns bits known out r way
   found = record { tells = w .tells out (le-refl out) ∙ from-none r; holds = holds r (w .falls); size = size }
     where
       size : length way ≡ 128

@@ -12,7 +12,7 @@ use Rattle.model.proofs.Walking.{valid-by}
 use Rattle.model.proofs.WellFormed.{GoodNode}
 use Rattle.network_path.specs.Layout.{nodeAt, nodesOf, configOf, scanPath}
 use Rattle.network_path.specs.Stored.{Stored, PathFound}
-use Rattle.network_path.specs.Answers.{Walkable, told, WalkHeld, Found}
+use Rattle.network_path.specs.Answers.{Walkable, told, WalkHeld, FindsPath}
 use Rattle.network_path.specs.declared.walk.Walked.{Walked}
 use Rattle.network_path.specs.declared.walk.Walked.the-variants.{Path, Stop as Stopped}
 use Rattle.network_path.proofs.ConfigLaws.{good-safe, found-config}
@@ -29,7 +29,7 @@ module _ (net : Network) (ns : List ℕ) (count out : ℕ) (st : Stored net ns c
   stored-walkable way e = record { safe = λ k a b. good-safe ns count (st .most) stored-good k a (omega (arith, stored-out)); size = e; room = omega (arith, stored-out, st .most) }
 
   -- what it answers
-  module _ (bits known : List ℕ) (r : Walked) (way : List ℕ) (f : Found ns bits known out r way) where
+  module _ (bits known : List ℕ) (r : Walked) (way : List ℕ) (f : FindsPath ns bits known out r way) where
     pub found-walk : walk net (configOf ns bits known count) ≡ told ns way r
     found-walk =
         ap (λ (l : List Node). walkFrom (nodeOf l) (bitOf (configOf ns bits known count)) (net .out) (net .out)) (st .nodes)

@@ -93,7 +93,7 @@ WalkHeld ns way (Path n) = HoldsPath ns way n
 WalkHeld ns way (Stopped m) = Unit {0}
 
 -- the answer r, with `way` in the lent memory after
-pub record Found (ns bits known : List ℕ) (out : ℕ) (r : Walked) (way : List ℕ) : Type 0 where
+pub record FindsPath (ns bits known : List ℕ) (out : ℕ) (r : Walked) (way : List ℕ) : Type 0 where
   pub tells : walkFrom (nodeAt ns) (lookIn bits known) out out ≡ told ns way r
   pub holds : WalkHeld ns way r
   pub size : length way ≡ 128

@@ -8,7 +8,7 @@ ghost use mathlib.Core.Path.{_≡_};
 ghost use Prim.Native.Nat.{_+_, _<_, _≤_};
 ghost use Rattle.network_words.specs.Words.{wordWidth};
 ghost use Rattle.network_path.specs.Layout.{nodeAt, lookIn, SafeNode};
-ghost use Rattle.network_path.specs.Answers.{addressed, addressIn, stepOf, Walkable, walkedBy, Walks, Found};
+ghost use Rattle.network_path.specs.Answers.{addressed, addressIn, stepOf, Walkable, walkedBy, Walks, FindsPath};
 
 // The address of a multiplexer, as far as it is known.
 pub enum Address {
@@ -113,7 +113,7 @@ pub fn find_path<'a>(
     way: &mut Way,
 ) -> Walked
     requires { ⌜ Walkable (now nodes) out (now way) 0 ⌝ }
-    ensures { λ r. ⌜ Found (now (nodes .entry)) (now (bits .entry)) (now (known .entry)) out r (now (way .exit)) ⌝ }
+    ensures { λ r. ⌜ FindsPath (now (nodes .entry)) (now (bits .entry)) (now (known .entry)) out r (now (way .exit)) ⌝ }
 {
     answer_of(walk(nodes, bits, known, out, way, 0))
 }

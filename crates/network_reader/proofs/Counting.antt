@@ -10,7 +10,7 @@ use Rattle.model.specs.Network.{Node, lenOf, tabulate, steers, steeringIn, stee
 use Rattle.model.specs.Path.{bitValue}
 use Rattle.network_words.specs.Words.{wordWidth, wordBit}
 use Rattle.network_path.specs.Layout.{nodeAt, nodesOf}
-use Rattle.network_draft.specs.Draws.{Short}
+use Rattle.network_draft.specs.Represents.{Short}
 use Rattle.network_reader.specs.Counts.{countIn, countFrom}
 
 pub count-step : (w b len : ℕ) → b < len → countIn w b (len - b) ≡ bitValue (wordBit w b) + countIn w (b + 1) (len - (b + 1))

@@ -17,10 +17,10 @@ use Rattle.network_line.specs.declared.ParsedLine.{ParsedLine}
 use Rattle.network_draft.specs.declared.add.Refusal.{Refusal}
 use Rattle.network_draft.specs.declared.add.Refusal.the-variants.{Nothing, Refused}
 use Rattle.network_line.specs.Line.{bytesAt, entryMeans, GoodEntry, IsLine}
-use Rattle.network_draft.specs.declared.store.Tally.{Tally}
+use Rattle.network_draft.specs.declared.store.Summary.{Summary}
 use Rattle.network_draft.specs.declared.add.Added.{Added}
 use Rattle.network_reader.specs.declared.reader.Lines.{Lines}
-use Rattle.network_draft.specs.Draws.{Draws, Agrees}
+use Rattle.network_draft.specs.Represents.{Represents, Agrees}
 use Rattle.network_reader.specs.Reads.{LineAdded, LinesAre, LinesRead}
 
 -- ---- a parsed line
@@ -44,10 +44,10 @@ was-refused D (refused a b) r number place f q = let z : Refused a b ≡ Refused
 pub record Went (D : Draft → Type 0) (a : Result Draft) : Type 0 where
   pub draft : Draft
   pub is : a ≡ ok draft
-  pub drawn : D draft
+  pub represented : D draft
 
 pub went-on : (D : Draft → Type 0) (a : Result Draft) (r : Refusal) → Agrees D a r → r ≡ Nothing → Went D a
-went-on D (ok e) r f q = record { draft = e; is = refl; drawn = f .1 }
+went-on D (ok e) r f q = record { draft = e; is = refl; represented = f .1 }
 went-on D (refused a b) r f q = absurd (let z : Nothing ≡ Refused a b = sym q ∙ f in let y : _≡_ {A = ℕ} 0 1 = cc in omega arith)
 
 -- ---- the loop over the lines
@@ -87,44 +87,44 @@ no-line-left t d n at l = ap (λ (x : Bytes). readLines d n (parts lineEnd x)) (
 
 -- ---- before line n, from byte `at` on
 
-pub record Standing (t : Bytes) (ns bits known steering held : List ℕ) (y : Tally) (at n : ℕ) : Type 0 where
+pub record Standing (t : Bytes) (ns bits known steering held : List ℕ) (y : Summary) (at n : ℕ) : Type 0 where
   pub draft : Draft
-  pub drawn : Draws ns bits known steering held y draft n
+  pub represented : Represents ns bits known steering held y draft n
   pub rest : readLines noLines 1 (parts lineEnd t) ≡ readLines draft n (parts lineEnd (drop at t))
 
-pub standing-start : (t : Bytes) (ns bits known steering held : List ℕ) (y : Tally) → Draws ns bits known steering held y noLines 1 → Standing t ns bits known steering held y 0 1
-standing-start t ns bits known steering held y w = record { draft = noLines; drawn = w; rest = refl }
+pub standing-start : (t : Bytes) (ns bits known steering held : List ℕ) (y : Summary) → Represents ns bits known steering held y noLines 1 → Standing t ns bits known steering held y 0 1
+standing-start t ns bits known steering held y w = record { draft = noLines; represented = w; rest = refl }
 
 pub lines-refused : (t : Bytes) (ns bits known steering held : List ℕ) (r : Lines) (number place : ℕ)
     → readLines noLines 1 (parts lineEnd t) ≡ refused number place → r .refusal ≡ Refused number place → LinesRead t r ns bits known steering held
 lines-refused t ns bits known steering held r number place q e = subst (λ (a : Result (ℕ × Draft)). LinesAre ns bits known steering held a r) (sym q) e
 
-module _ (t : Bytes) (ns bits known steering held : List ℕ) (y : Tally) (at n : ℕ) (s : Standing t ns bits known steering held y at n) where
+module _ (t : Bytes) (ns bits known steering held : List ℕ) (y : Summary) (at n : ℕ) (s : Standing t ns bits known steering held y at n) where
   pub standing-unended : (end : ℕ) → IsEnd lineEnd t at end → at < length t → end ≡ length t → readLines noLines 1 (parts lineEnd t) ≡ refused 1 n
   standing-unended end e l q = s .rest ∙ unended t (s .draft) n at end e l q
 
-  pub standing-end : length t ≤ at → (r : Lines) → r .refusal ≡ Nothing → r .tally ≡ y → r .next ≡ n → LinesRead t r ns bits known steering held
+  pub standing-end : length t ≤ at → (r : Lines) → r .refusal ≡ Nothing → r .summary ≡ y → r .next ≡ n → LinesRead t r ns bits known steering held
   standing-end l r a b q =
       subst (λ (x : Result (ℕ × Draft)). LinesAre ns bits known steering held x r) (sym (s .rest ∙ no-line-left t (s .draft) n at l))
-      (a, q, subst (λ (x : Tally). Draws ns bits known steering held x (s .draft) n) (sym b) (s .drawn))
+      (a, q, subst (λ (x : Summary). Represents ns bits known steering held x (s .draft) n) (sym b) (s .represented))
 
   module _ (ns′ bits′ known′ steering′ held′ : List ℕ) (end : ℕ) (r : Added) (e : IsEnd lineEnd t at end) (l : end < length t)
       (f : LineAdded ns bits known steering held y (take (end - at) (drop at t)) n r ns′ bits′ known′ steering′ held′) where
     abbrev Next : Draft → Type 0
-    Next d = Draws ns′ bits′ known′ steering′ held′ (r .tally) d (suc n)
+    Next d = Represents ns′ bits′ known′ steering′ held′ (r .summary) d (suc n)
 
     abbrev Answer : Result Draft
     Answer = addLine (s .draft) n (lineOf (take (end - at) (drop at t)))
 
     pub standing-refused : (number place : ℕ) → r .refusal ≡ Refused number place → readLines noLines 1 (parts lineEnd t) ≡ refused number place
-    standing-refused number place q = s .rest ∙ line-refused t (s .draft) n at end e l number place (was-refused Next Answer (r .refusal) number place (f (s .draft) (s .drawn)) q)
+    standing-refused number place q = s .rest ∙ line-refused t (s .draft) n at end e l number place (was-refused Next Answer (r .refusal) number place (f (s .draft) (s .represented)) q)
 
-    pub standing-next : r .refusal ≡ Nothing → Standing t ns′ bits′ known′ steering′ held′ (r .tally) (end + 1) (n + 1)
-    standing-next q = go (went-on Next Answer (r .refusal) (f (s .draft) (s .drawn)) q)
+    pub standing-next : r .refusal ≡ Nothing → Standing t ns′ bits′ known′ steering′ held′ (r .summary) (end + 1) (n + 1)
+    standing-next q = go (went-on Next Answer (r .refusal) (f (s .draft) (s .represented)) q)
       where
-        go : Went Next Answer → Standing t ns′ bits′ known′ steering′ held′ (r .tally) (end + 1) (n + 1)
+        go : Went Next Answer → Standing t ns′ bits′ known′ steering′ held′ (r .summary) (end + 1) (n + 1)
         go w = record {
           draft = w .draft;
-          drawn = subst (λ (k : ℕ). Draws ns′ bits′ known′ steering′ held′ (r .tally) (w .draft) k) (sym (add-one n)) (w .drawn);
+          represented = subst (λ (k : ℕ). Represents ns′ bits′ known′ steering′ held′ (r .summary) (w .draft) k) (sym (add-one n)) (w .represented);
           rest = s .rest ∙ line-read t (s .draft) n at end e l (w .draft) (w .is);
         }

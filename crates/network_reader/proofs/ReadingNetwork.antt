@@ -1,4 +1,4 @@
--- Laws of the whole text: the empty arrays draw no lines, and what each ending says of `readNetwork`.
+-- Laws of the whole text: the empty arrays represent no lines, and what each ending says of `readNetwork`.
 -- Assumes nothing.
 use mathlib.Core.Path.{_≡_, refl, sym, ap, _∙_, subst}
 use mathlib.Core.Bool.{Bool, true, false}
@@ -18,34 +18,34 @@ use Rattle.model.proofs.Accepted.{draft-formed}
 use Rattle.model.proofs.Reading.{sound-start}
 use Rattle.network_words.specs.Words.{wordWidth, wordBit}
 use Rattle.network_path.specs.Layout.{nodesOf, configOf, scanPath}
-use Rattle.network_path.specs.Answers.{Found, Walkable, told}
+use Rattle.network_path.specs.Answers.{FindsPath, Walkable, told}
 use Rattle.network_path.specs.declared.walk.Walked.{Walked}
 use Rattle.network_path.specs.declared.walk.Walked.the-variants.{Path, Stop as Stopped}
 use Rattle.network_words.proofs.WordLaws.{zero-bit}
 use Rattle.network_path.specs.Stored.{Stored}
 use Rattle.network_path.proofs.StoredLaws.{stored-walkable, found-walk}
-use Rattle.network_draft.specs.declared.store.Tally.{Tally}
+use Rattle.network_draft.specs.declared.store.Summary.{Summary}
 use Rattle.network_draft.specs.declared.add.Refusal.the-variants.{Nothing, Refused}
 use Rattle.network_reader.specs.declared.reader.Lines.{Lines}
 use Rattle.network_reader.specs.declared.reader.Ending.{Ending}
 use Rattle.network_reader.specs.declared.reader.Ending.the-variants.{Refused as EndRefused, Recorded}
 use Rattle.network_reader.specs.declared.reader.Network.{Network}
-use Rattle.network_reader.specs.declared.reader.Verdict.the-variants.{Accepted, Refused as Rejected}
+use Rattle.network_reader.specs.declared.reader.Acceptance.the-variants.{Accepted, Refused as Rejected}
 use Rattle.network_reader.specs.declared.reader.Reading.{Reading}
-use Rattle.network_draft.specs.Draws.{feedsOf, Short, Draws, emptyTally}
+use Rattle.network_draft.specs.Represents.{feedsOf, Short, Represents, emptySummary}
 use Rattle.network_reader.specs.Start.{StartFilled}
 use Rattle.network_reader.specs.Counts.{countFrom}
-use Rattle.network_reader.specs.Reads.{LinesAre, networkOf as recorded, recordOf, EndsAs, Begun, StartWalked, finishOf, readingBy, noNetwork, FilledIf, IsReading}
+use Rattle.network_reader.specs.Reads.{LinesAre, recordedNetwork as recorded, recordOf, EndsAs, Begun, StartWalked, finishOf, readingBy, noNetwork, RecordCompleteIf, IsReading}
 use Rattle.model.proofs.Lists.{zero-at}
-use Rattle.network_draft.proofs.Drawing.{drawn-out, drawn-words}
+use Rattle.network_draft.proofs.Representing.{represented-out, represented-words}
 use Rattle.network_reader.proofs.Counting.{counts-steering}
 use Rattle.network_reader.proofs.Starting.{start-config}
 
 -- ---- no lines
 
-pub draws-none : Draws (replicate 1032 0) (replicate 129 0) (replicate 129 0) (replicate 129 0) (replicate 129 0) emptyTally noLines 1
+pub represents-none : Represents (replicate 1032 0) (replicate 129 0) (replicate 129 0) (replicate 129 0) (replicate 129 0) emptySummary noLines 1
 unfolding totalBits steers isHeld heldOr
-draws-none = record {
+represents-none = record {
   sized = record {
     nodes = length-replicate {A = ℕ} 1032 0;
     bit-words = length-replicate {A = ℕ} 129 0;
@@ -53,7 +53,7 @@ draws-none = record {
     steering-words = length-replicate {A = ℕ} 129 0;
     held-flags = length-replicate {A = ℕ} 129 0;
   };
-  tame = record { nodes-fit = omega arith; bits-fit = omega arith; targets-fit = omega arith; segments = refl; words = refl; bits = refl };
+  in-limits = record { nodes-fit = omega arith; bits-fit = omega arith; targets-fit = omega arith; segments = refl; words = refl; bits = refl };
   nodes-are = refl;
   total-is = refl;
   out-is = refl;
@@ -71,7 +71,7 @@ draws-none = record {
 pub reading-refused : (t : Bytes) (r : Reading) (number place : ℕ) → (r .verdict ≡ Rejected number place) × (r .network ≡ noNetwork) → readNetwork t ≡ refused number place → IsReading t r
 reading-refused t r number place e q = record {
   reads = ap (λ (v : _). readingBy v (r .network)) (e .0) ∙ sym q;
-  filled = subst (λ (v : _). FilledIf v (r .network)) (sym (e .0)) (e .1);
+  filled = subst (λ (v : _). RecordCompleteIf v (r .network)) (sym (e .0)) (e .1);
 }
 
 module _ (t : Bytes) where
@@ -84,7 +84,7 @@ module _ (t : Bytes) where
     unfolding readNetwork
     of-lines = ap (λ (b : Bool). refuseIf b 3 0 (finishOf (readLines noLines 1 (parts lineEnd t)))) (le-ltb 16384 (length t) short)
 
-    module _ (ns bits known steering : List ℕ) (y : Tally) (r : Ending) (ends : EndsAs ns bits known steering y (finishOf (readLines noLines 1 (parts lineEnd t))) r) where
+    module _ (ns bits known steering : List ℕ) (y : Summary) (r : Ending) (ends : EndsAs ns bits known steering y (finishOf (readLines noLines 1 (parts lineEnd t))) r) where
       pub ends-refused : (number place : ℕ) → r ≡ EndRefused number place → readNetwork t ≡ refused number place
       ends-refused number place e = of-lines ∙ subst (EndsAs ns bits known steering y (finishOf (readLines noLines 1 (parts lineEnd t)))) e ends
 
@@ -106,53 +106,53 @@ module _ (ns bits known steering held : List ℕ) (r : Lines) (a : Result (ℕ �
   -- the lines are read
   pub record Read : Type 0 where
     pub draft : Draft
-    pub drawn : Draws ns bits known steering held (r .tally) draft (r .next)
+    pub represented : Represents ns bits known steering held (r .summary) draft (r .next)
     pub finishes : finishOf a ≡ finish (r .next) draft (draft .feeds)
 
   pub lines-read : r .refusal ≡ Nothing → Read
   lines-read e = go a refl lines
     where
       go : (b : Result (ℕ × Draft)) → a ≡ b → LinesAre ns bits known steering held b r → Read
-      go (ok nd) q f = record { draft = nd .1; drawn = rw (f .1) (f .2); finishes = ap finishOf q ∙ rw (f .1) refl }
+      go (ok nd) q f = record { draft = nd .1; represented = rw (f .1) (f .2); finishes = ap finishOf q ∙ rw (f .1) refl }
       go (refused m p) q f = absurd (let z : Nothing ≡ Refused m p = sym e ∙ f in let y : _≡_ {A = ℕ} 0 1 = cc in omega arith)
 
   module _ (w : Read) where
     -- without an `out` line
-    pub no-out-line : r .tally .«has_out» ≡ false → finishOf a ≡ refused 4 (r .next)
-    no-out-line e = w .finishes ∙ ap (finish (r .next) (w .draft)) (sym (w .drawn .out-is) ∙ ap (λ (b : Bool). feedsOf b (r .tally .out)) e)
+    pub no-out-line : r .summary .«has_out» ≡ false → finishOf a ≡ refused 4 (r .next)
+    no-out-line e = w .finishes ∙ ap (finish (r .next) (w .draft)) (sym (w .represented .out-is) ∙ ap (λ (b : Bool). feedsOf b (r .summary .out)) e)
 
-    module _ (e : r .tally .«has_out» ≡ true) (bits′ known′ : List ℕ) (f : StartFilled bits known steering held (r .tally .count) bits′ known′) where
-      pub begun : Begun ns bits′ known′ steering (r .tally) (w .draft) (r .next)
-      begun = record { bits₀ = bits; known₀ = known; held = held; drawn = w .drawn; fed = e; filled = f }
+    module _ (e : r .summary .«has_out» ≡ true) (bits′ known′ : List ℕ) (f : StartFilled bits known steering held (r .summary .count) bits′ known′) where
+      pub begun : Begun ns bits′ known′ steering (r .summary) (w .draft) (r .next)
+      begun = record { bits₀ = bits; known₀ = known; held = held; represented = w .represented; fed = e; filled = f }
 
-      pub start-ends : (x : Ending) → StartWalked ns bits′ known′ steering (r .tally) x → EndsAs ns bits′ known′ steering (r .tally) (finishOf a) x
-      start-ends x s = subst (λ (z : Result ModelNetwork). EndsAs ns bits′ known′ steering (r .tally) z x) (sym (w .finishes)) (s (w .draft) (r .next) begun)
+      pub start-ends : (x : Ending) → StartWalked ns bits′ known′ steering (r .summary) x → EndsAs ns bits′ known′ steering (r .summary) (finishOf a) x
+      start-ends x s = subst (λ (z : Result ModelNetwork). EndsAs ns bits′ known′ steering (r .summary) z x) (sym (w .finishes)) (s (w .draft) (r .next) begun)
 
 -- ---- the start, for a text with an `out` line
 
-module _ (ns bits known steering : List ℕ) (y : Tally) (d : Draft) (n : ℕ) (b : Begun ns bits known steering y d n) where
-  abbrev w : Draws ns (b .bits₀) (b .known₀) steering (b .held) y d n
-  w = b .drawn
+module _ (ns bits known steering : List ℕ) (y : Summary) (d : Draft) (n : ℕ) (b : Begun ns bits known steering y d n) where
+  abbrev w : Represents ns (b .bits₀) (b .known₀) steering (b .held) y d n
+  w = b .represented
 
   fed : d .feeds ≡ some (y .out)
   fed = sym (w .out-is) ∙ ap (λ (x : Bool). feedsOf x (y .out)) (b .fed)
 
   -- the arrays hold the network of the draft
   stored : Stored (networkOf d (y .out)) ns (y .count) (y .out)
-  stored = record { nodes = sym (w .nodes-are); feeds = refl; most = w .tame .nodes-fit; formed = draft-formed d n (y .out) (w .sound) fed }
+  stored = record { nodes = sym (w .nodes-are); feeds = refl; most = w .in-limits .nodes-fit; formed = draft-formed d n (y .out) (w .sound) fed }
 
   -- what the calls for the start ask
   pub start-walkable : (way : List ℕ) → length way ≡ 128 → Walkable ns (y .out) way 0
   start-walkable = stored-walkable (networkOf d (y .out)) ns (y .count) (y .out) stored
 
   pub start-short : (y .count ≤ 128) × Short ns (y .count)
-  start-short = (w .tame .nodes-fit, drawn-words ns (b .bits₀) (b .known₀) steering (b .held) y d n w)
+  start-short = (w .in-limits .nodes-fit, represented-words ns (b .bits₀) (b .known₀) steering (b .held) y d n w)
 
   start-is : configOf ns bits known (y .count) ≡ startOf (d .nodes) (d .holds)
   start-is =
-      start-config ns (b .bits₀) (b .known₀) steering (b .held) y d n w (drawn-out ns (b .bits₀) (b .known₀) steering (b .held) y d n w ∙ b .fed) bits known (b .filled)
+      start-config ns (b .bits₀) (b .known₀) steering (b .held) y d n w (represented-out ns (b .bits₀) (b .known₀) steering (b .held) y d n w ∙ b .fed) bits known (b .filled)
 
-  module _ (r : Walked) (way : List ℕ) (found : Found ns bits known (y .out) r way) where
+  module _ (r : Walked) (way : List ℕ) (found : FindsPath ns bits known (y .out) r way) where
     start-walk : walk (networkOf d (y .out)) (networkOf d (y .out) .start) ≡ told ns way r
     start-walk =
         ap (walk (networkOf d (y .out))) (sym start-is)
@@ -190,7 +190,7 @@ module _ (ns bits known steering : List ℕ) (y : Tally) (d : Draft) (n : ℕ) (
           bits-size = b .filled .bits-size ∙ w .sized .bit-words;
           known-size = b .filled .known-size ∙ w .sized .known-words;
           steering-size = w .sized .steering-words;
-          tame = w .tame;
+          in-limits = w .in-limits;
           steering-is = same-steering;
           steering-small = w .steering-small;
           totals = w .total-is ∙ ap totalBits (sym (w .nodes-are));

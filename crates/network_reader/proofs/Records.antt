@@ -20,29 +20,29 @@ use Rattle.network_path.proofs.ConfigLaws.{good-most}
 use Rattle.network_path.specs.Stored.{Stored}
 use Rattle.network_reader.specs.declared.reader.Network.{Network}
 use Rattle.network_reader.specs.declared.reader.Reading.{Reading}
-use Rattle.network_reader.specs.declared.reader.Verdict.{Verdict}
-use Rattle.network_reader.specs.declared.reader.Verdict.the-variants.{Accepted as Passed, Refused as Rejected}
-use Rattle.network_draft.specs.Draws.{targetAt}
-use Rattle.network_reader.specs.Reads.{networkOf, readingBy, Filled, FilledIf, IsReading}
+use Rattle.network_reader.specs.declared.reader.Acceptance.{Acceptance}
+use Rattle.network_reader.specs.declared.reader.Acceptance.the-variants.{Accepted as Passed, Refused as Rejected}
+use Rattle.network_draft.specs.Represents.{targetAt}
+use Rattle.network_reader.specs.Reads.{recordedNetwork, readingBy, RecordComplete, RecordCompleteIf, IsReading}
 use Rattle.network_draft.proofs.BadAddresses.{node-in, node-zero, node-beyond}
 use Rattle.network_draft.proofs.TargetLaws.{fits-segment, target-names}
 
 pub record Recorded (t : Bytes) (r : Network) : Type 0 where
-  pub reads : readNetwork t ≡ ok (networkOf r)
-  pub filled : Filled r
-  pub net : Accepted (networkOf r)
-  pub stored : Stored (networkOf r) (r .nodes) (r .tally .count) (r .tally .out)
+  pub reads : readNetwork t ≡ ok (recordedNetwork r)
+  pub filled : RecordComplete r
+  pub net : Accepted (recordedNetwork r)
+  pub stored : Stored (recordedNetwork r) (r .nodes) (r .summary .count) (r .summary .out)
 
 module _ (t : Bytes) (r : Reading) (is : IsReading t r) where
   pub reading-rejected : (number place : ℕ) → r .verdict ≡ Rejected number place → readNetwork t ≡ refused number place
-  reading-rejected number place e = sym (is .reads) ∙ ap (λ (v : Verdict). readingBy v (r .network)) e
+  reading-rejected number place e = sym (is .reads) ∙ ap (λ (v : Acceptance). readingBy v (r .network)) e
 
   pub reading-recorded : r .verdict ≡ Passed → Recorded t (r .network)
   reading-recorded e =
-      let q : readNetwork t ≡ ok (networkOf (r .network)) = sym (is .reads) ∙ ap (λ (v : Verdict). readingBy v (r .network)) e in
-      let f : Filled (r .network) = subst (λ (v : Verdict). FilledIf v (r .network)) e (is .filled) in
-      let a = accepted t (networkOf (r .network)) q in
-      record { reads = q; filled = f; net = a; stored = record { nodes = refl; feeds = refl; most = f .tame .nodes-fit; formed = a .wf } }
+      let q : readNetwork t ≡ ok (recordedNetwork (r .network)) = sym (is .reads) ∙ ap (λ (v : Acceptance). readingBy v (r .network)) e in
+      let f : RecordComplete (r .network) = subst (λ (v : Acceptance). RecordCompleteIf v (r .network)) e (is .filled) in
+      let a = accepted t (recordedNetwork (r .network)) q in
+      record { reads = q; filled = f; net = a; stored = record { nodes = refl; feeds = refl; most = f .in-limits .nodes-fit; formed = a .wf } }
 
 -- ---- targets
 
@@ -60,28 +60,28 @@ pub record TargetSegment (ns : List ℕ) (count s : ℕ) : Type 0 where
 
 module _ (t : Bytes) (r : Network) (c : Recorded t r) where
   abbrev ns : List Node
-  ns = nodesOf (r .nodes) (r .tally .count)
+  ns = nodesOf (r .nodes) (r .summary .count)
 
-  short-node : (s : ℕ) → 1 ≤ s → s ≤ r .tally .count → lenOf (nodeAt (r .nodes) s) ≤ wordWidth
+  short-node : (s : ℕ) → 1 ≤ s → s ≤ r .summary .count → lenOf (nodeAt (r .nodes) s) ≤ wordWidth
   short-node zero a b = absurd (omega arith)
   short-node (suc n) a b =
-      subst (λ (x : Node). lenOf x ≤ wordWidth) (node-in (r .nodes) (r .tally .count) (suc n) a b)
-      (good-most ns (suc n) (getD ns n noNode) (c .net .wf .backwards n (omega (arith, length-tabulate (nodeAt (r .nodes)) 1 (r .tally .count)))))
+      subst (λ (x : Node). lenOf x ≤ wordWidth) (node-in (r .nodes) (r .summary .count) (suc n) a b)
+      (good-most ns (suc n) (getD ns n noNode) (c .net .wf .backwards n (omega (arith, length-tabulate (nodeAt (r .nodes)) 1 (r .summary .count)))))
 
-  target-is : (i : ℕ) → i < r .tally .«target_count» → isSegment (at ns (getD (r .tally .«target_segment») i 0) noNode) ≡ true
+  target-is : (i : ℕ) → i < r .summary .«target_count» → isSegment (at ns (getD (r .summary .«target_segment») i 0) noNode) ≡ true
   target-is i lt =
-      let m = tabulate-in (targetAt (r .nodes) (r .tally)) 0 (r .tally .«target_count») i lt in
+      let m = tabulate-in (targetAt (r .nodes) (r .summary)) 0 (r .summary .«target_count») i lt in
       let z : 0 + i ≡ i = omega arith in
-      let f = fits-segment ns (targetAt (r .nodes) (r .tally) (0 + i)) (c .net .targets-fit .fits _ m) in
-      ap (λ (k : ℕ). isSegment (at ns k noNode)) (ap (λ (k : ℕ). getD (r .tally .«target_segment») k 0) (sym z) ∙ sym (target-names (r .nodes) (r .tally) (0 + i))) ∙ f
+      let f = fits-segment ns (targetAt (r .nodes) (r .summary) (0 + i)) (c .net .targets-fit .fits _ m) in
+      ap (λ (k : ℕ). isSegment (at ns k noNode)) (ap (λ (k : ℕ). getD (r .summary .«target_segment») k 0) (sym z) ∙ sym (target-names (r .nodes) (r .summary) (0 + i))) ∙ f
 
-  pub target-segment : (i : ℕ) → i < r .tally .«target_count» → TargetSegment (r .nodes) (r .tally .count) (getD (r .tally .«target_segment») i 0)
-  target-segment i lt = by (getD (r .tally .«target_segment») i 0) (target-is i lt)
+  pub target-segment : (i : ℕ) → i < r .summary .«target_count» → TargetSegment (r .nodes) (r .summary .count) (getD (r .summary .«target_segment») i 0)
+  target-segment i lt = by (getD (r .summary .«target_segment») i 0) (target-is i lt)
     where
-      by : (s : ℕ) → isSegment (at ns s noNode) ≡ true → TargetSegment (r .nodes) (r .tally .count) s
-      by s e = go (decLt s 1) (decLt (r .tally .count) s)
+      by : (s : ℕ) → isSegment (at ns s noNode) ≡ true → TargetSegment (r .nodes) (r .summary .count) s
+      by s e = go (decLt s 1) (decLt (r .summary .count) s)
         where
-          go : Dec (s < 1) → Dec (r .tally .count < s) → TargetSegment (r .nodes) (r .tally .count) s
-          go (yes h) d = absurd (true-false (sym e ∙ ap isSegment (node-zero (r .nodes) (r .tally .count) s h)))
-          go (no h) (yes l) = absurd (true-false (sym e ∙ ap isSegment (node-beyond (r .nodes) (r .tally .count) s l)))
+          go : Dec (s < 1) → Dec (r .summary .count < s) → TargetSegment (r .nodes) (r .summary .count) s
+          go (yes h) d = absurd (true-false (sym e ∙ ap isSegment (node-zero (r .nodes) (r .summary .count) s h)))
+          go (no h) (yes l) = absurd (true-false (sym e ∙ ap isSegment (node-beyond (r .nodes) (r .summary .count) s l)))
           go (no h) (no l) = record { least = omega arith; most = omega arith; short = short-node s (omega arith) (omega arith) }

@@ -16,9 +16,9 @@ use Rattle.model.proofs.Lists.{tabulate-cong, mapFrom-tabulate}
 use Rattle.network_words.specs.Words.{wordWidth, allKnown, tritsOf}
 use Rattle.network_path.specs.Layout.{nodeAt, configOf}
 use Rattle.network_words.proofs.WordLaws.{trits-zero, trits-unknown}
-use Rattle.network_draft.specs.declared.store.Tally.{Tally}
-use Rattle.network_draft.specs.Draws.{Draws}
-use Rattle.network_draft.proofs.Drawing.{drawn-node, drawn-short}
+use Rattle.network_draft.specs.declared.store.Summary.{Summary}
+use Rattle.network_draft.specs.Represents.{Represents}
+use Rattle.network_draft.proofs.Representing.{represented-node, represented-short}
 use Rattle.network_draft.proofs.AddingTargets.{not-steering, is-steering}
 use Rattle.network_reader.specs.Start.{freeMarks, startBits, startMarks, OneFilled, StartFilled}
 
@@ -84,12 +84,12 @@ module _ (bits₀ known₀ steering held : List ℕ) where
 
 -- ---- the configuration
 
-module _ (ns bits known steering held : List ℕ) (t : Tally) (d : Draft) (n : ℕ) (w : Draws ns bits known steering held t d n) (out : hasOut d ≡ true)
+module _ (ns bits known steering held : List ℕ) (t : Summary) (d : Draft) (n : ℕ) (w : Represents ns bits known steering held t d n) (out : hasOut d ≡ true)
     (bits′ known′ : List ℕ) (f : StartFilled bits known steering held (t .count) bits′ known′) where
   row : (s : ℕ) → 1 ≤ s → s ≤ t .count
       → tritsOf (lenOf (nodeAt ns s)) (getD bits′ s 0) (getD known′ s 0) ≡ heldOr (replicate (lenOf (nodeAt ns s)) (startBit (isSteering (d .nodes) s))) (d .holds) s
   row s lo hi =
-      let small : s ≤ 128 = omega (arith, w .tame .nodes-fit) in
+      let small : s ≤ 128 = omega (arith, w .in-limits .nodes-fit) in
       rw (f .words s lo hi, f .marks s lo hi)
       (by-flag (eqb (getD held s 0) 1) (eqb (getD steering s 0) 0) refl ∙ sym (w .start-is s small (replicate (lenOf (nodeAt ns s)) (startBit (isSteering (d .nodes) s)))))
     where
@@ -97,10 +97,10 @@ module _ (ns bits known steering held : List ℕ) (t : Tally) (d : Draft) (n : �
       len = lenOf (nodeAt ns s)
 
       short : lenOf (nodeAt ns s) ≤ wordWidth
-      short = let e = ap lenOf (drawn-node ns bits known steering held t d n w s lo hi) in omega (arith, drawn-short ns bits known steering held t d n w s)
+      short = let e = ap lenOf (represented-node ns bits known steering held t d n w s lo hi) in omega (arith, represented-short ns bits known steering held t d n w s)
 
       within : s ≤ 128
-      within = omega (arith, w .tame .nodes-fit)
+      within = omega (arith, w .in-limits .nodes-fit)
 
       by-flag : (b z : Bool) → eqb (getD steering s 0) 0 ≡ z
           → tritsOf (lenOf (nodeAt ns s)) (cond b (getD bits s 0) 0) (cond b (getD known s 0) (cond z 0 allKnown))

@@ -12,29 +12,29 @@ use Rattle.model.specs.Path.{pathIn, pathLength}
 use Rattle.model.specs.NetworkText.{Draft, noLines, lineOf, addLine, readLines, finish, readNetwork}
 use Rattle.network_words.specs.Words.{wordWidth, wordBit}
 use Rattle.network_path.specs.Layout.{nodesOf, configOf}
-use Rattle.network_draft.specs.declared.store.Tally.{Tally}
+use Rattle.network_draft.specs.declared.store.Summary.{Summary}
 use Rattle.network_draft.specs.declared.add.Added.{Added}
 use Rattle.network_draft.specs.declared.add.Refusal.the-variants.{Nothing, Refused}
 use Rattle.network_reader.specs.declared.reader.Lines.{Lines}
 use Rattle.network_reader.specs.declared.reader.Ending.{Ending}
 use Rattle.network_reader.specs.declared.reader.Ending.the-variants.{Refused as EndRefused, Recorded}
 use Rattle.network_reader.specs.declared.reader.Network.{Network}
-use Rattle.network_reader.specs.declared.reader.Verdict.{Verdict}
-use Rattle.network_reader.specs.declared.reader.Verdict.the-variants.{Accepted, Refused as Rejected}
+use Rattle.network_reader.specs.declared.reader.Acceptance.{Acceptance}
+use Rattle.network_reader.specs.declared.reader.Acceptance.the-variants.{Accepted, Refused as Rejected}
 use Rattle.network_reader.specs.declared.reader.Reading.{Reading}
 use Rattle.network_draft.specs.Store.{Small}
-use Rattle.network_draft.specs.Draws.{Draws, Agrees, Tame, targetsOf, emptyTally}
+use Rattle.network_draft.specs.Represents.{Represents, Agrees, InLimits, targetsOf, emptySummary}
 use Rattle.network_reader.specs.Start.{StartFilled}
 
 -- ---- one line, and the lines in turn
 
-abbrev pub LineAdded : List ℕ → List ℕ → List ℕ → List ℕ → List ℕ → Tally → Bytes → ℕ → Added → List ℕ → List ℕ → List ℕ → List ℕ → List ℕ → Type 0
+abbrev pub LineAdded : List ℕ → List ℕ → List ℕ → List ℕ → List ℕ → Summary → Bytes → ℕ → Added → List ℕ → List ℕ → List ℕ → List ℕ → List ℕ → Type 0
 LineAdded ns bits known steering held t line n r ns′ bits′ known′ steering′ held′ =
-    (d : Draft) → Draws ns bits known steering held t d n
-    → Agrees (λ e. Draws ns′ bits′ known′ steering′ held′ (r .tally) e (suc n)) (addLine d n (lineOf line)) (r .refusal)
+    (d : Draft) → Represents ns bits known steering held t d n
+    → Agrees (λ e. Represents ns′ bits′ known′ steering′ held′ (r .summary) e (suc n)) (addLine d n (lineOf line)) (r .refusal)
 
 abbrev pub LinesAre : List ℕ → List ℕ → List ℕ → List ℕ → List ℕ → Result (ℕ × Draft) → Lines → Type 0
-LinesAre ns bits known steering held (ok nd) r = (r .refusal ≡ Nothing) × (r .next ≡ nd .0) × Draws ns bits known steering held (r .tally) (nd .1) (nd .0)
+LinesAre ns bits known steering held (ok nd) r = (r .refusal ≡ Nothing) × (r .next ≡ nd .0) × Represents ns bits known steering held (r .summary) (nd .1) (nd .0)
 LinesAre ns bits known steering held (refused number place) r = r .refusal ≡ Refused number place
 
 abbrev pub LinesRead : Bytes → Lines → List ℕ → List ℕ → List ℕ → List ℕ → List ℕ → Type 0
@@ -43,17 +43,17 @@ LinesRead t r ns bits known steering held = LinesAre ns bits known steering held
 -- ---- the record
 
 -- the network that a record is
-abbrev pub networkOf : Network → ModelNetwork
-networkOf r = record {
-  nodes = nodesOf (r .nodes) (r .tally .count);
-  out = r .tally .out;
-  start = configOf (r .nodes) (r .bits) (r .known) (r .tally .count);
-  targets = targetsOf (r .nodes) (r .tally);
+abbrev pub recordedNetwork : Network → ModelNetwork
+recordedNetwork r = record {
+  nodes = nodesOf (r .nodes) (r .summary .count);
+  out = r .summary .out;
+  start = configOf (r .nodes) (r .bits) (r .known) (r .summary .count);
+  targets = targetsOf (r .nodes) (r .summary);
 }
 
 -- number and place of a refusal, or the network
-abbrev pub readingBy : Verdict → Network → Result ModelNetwork
-readingBy Accepted r = ok (networkOf r)
+abbrev pub readingBy : Acceptance → Network → Result ModelNetwork
+readingBy Accepted r = ok (recordedNetwork r)
 readingBy (Rejected number place) r = refused number place
 
 abbrev pub readingOf : Reading → Result ModelNetwork
@@ -61,38 +61,38 @@ readingOf r = readingBy (r .verdict) (r .network)
 
 -- what an accepted record has besides: array sizes, counts within them, each segment's word of steering bits, and three counts.
 -- Free are the numbers of nodes above the count, bits beyond a segment's LEN, and targets beyond their count.
-pub record Filled (r : Network) : Type 0 where
+pub record RecordComplete (r : Network) : Type 0 where
   pub nodes-size : length (r .nodes) ≡ 1032
   pub bits-size : length (r .bits) ≡ 129
   pub known-size : length (r .known) ≡ 129
   pub steering-size : length (r .steering) ≡ 129
-  pub tame : Tame (r .tally)
-  pub steering-is : (s b : ℕ) → s ≤ 128 → b < wordWidth → wordBit (getD (r .steering) s 0) b ≡ steers (nodesOf (r .nodes) (r .tally .count)) s b
+  pub in-limits : InLimits (r .summary)
+  pub steering-is : (s b : ℕ) → s ≤ 128 → b < wordWidth → wordBit (getD (r .steering) s 0) b ≡ steers (nodesOf (r .nodes) (r .summary .count)) s b
   pub steering-small : Small (r .steering)
-  pub totals : r .tally .total ≡ totalBits (networkOf r .nodes)
-  pub counted : r .«steering_count» ≡ length (steeringBits (networkOf r .nodes))
-  pub start-long : r .«start_length» ≡ pathLength (pathIn (networkOf r) (networkOf r .start))
+  pub totals : r .summary .total ≡ totalBits (recordedNetwork r .nodes)
+  pub counted : r .«steering_count» ≡ length (steeringBits (recordedNetwork r .nodes))
+  pub start-long : r .«start_length» ≡ pathLength (pathIn (recordedNetwork r) (recordedNetwork r .start))
 
 -- ---- what follows the lines
 
-abbrev pub recordOf : List ℕ → List ℕ → List ℕ → List ℕ → Tally → ℕ → ℕ → Network
-recordOf ns bits known steering t count len = record { nodes = ns; bits = bits; known = known; steering = steering; tally = t; «steering_count» = count; «start_length» = len }
+abbrev pub recordOf : List ℕ → List ℕ → List ℕ → List ℕ → Summary → ℕ → ℕ → Network
+recordOf ns bits known steering t count len = record { nodes = ns; bits = bits; known = known; steering = steering; summary = t; «steering_count» = count; «start_length» = len }
 
 -- an ending that agrees with the model's: the refusal, or the counts of the record
-abbrev pub EndsAs : List ℕ → List ℕ → List ℕ → List ℕ → Tally → Result ModelNetwork → Ending → Type 0
+abbrev pub EndsAs : List ℕ → List ℕ → List ℕ → List ℕ → Summary → Result ModelNetwork → Ending → Type 0
 EndsAs ns bits known steering t a (EndRefused number place) = a ≡ refused number place
-EndsAs ns bits known steering t a (Recorded count len) = (a ≡ ok (networkOf (recordOf ns bits known steering t count len))) × Filled (recordOf ns bits known steering t count len)
+EndsAs ns bits known steering t a (Recorded count len) = (a ≡ ok (recordedNetwork (recordOf ns bits known steering t count len))) × RecordComplete (recordOf ns bits known steering t count len)
 
 -- behind the lines, which have an `out` line, the start bits are filled
-pub record Begun (ns bits known steering : List ℕ) (t : Tally) (d : Draft) (n : ℕ) : Type 0 where
+pub record Begun (ns bits known steering : List ℕ) (t : Summary) (d : Draft) (n : ℕ) : Type 0 where
   pub bits₀ : List ℕ
   pub known₀ : List ℕ
   pub held : List ℕ
-  pub drawn : Draws ns bits₀ known₀ steering held t d n
+  pub represented : Represents ns bits₀ known₀ steering held t d n
   pub fed : t .«has_out» ≡ true
   pub filled : StartFilled bits₀ known₀ steering held (t .count) bits known
 
-abbrev pub StartWalked : List ℕ → List ℕ → List ℕ → List ℕ → Tally → Ending → Type 0
+abbrev pub StartWalked : List ℕ → List ℕ → List ℕ → List ℕ → Summary → Ending → Type 0
 StartWalked ns bits known steering t r = (d : Draft) (n : ℕ) → Begun ns bits known steering t d n → EndsAs ns bits known steering t (finish n d (d .feeds)) r
 
 abbrev pub finishOf : Result (ℕ × Draft) → Result ModelNetwork
@@ -100,18 +100,18 @@ finishOf a = andThen a (λ r. finish (r .0) (r .1) (r .1 .feeds))
 
 abbrev pub LinesFinished : List ℕ → List ℕ → List ℕ → List ℕ → List ℕ → Lines → Ending → List ℕ → List ℕ → Type 0
 LinesFinished ns bits known steering held l r bits′ known′ =
-    (a : Result (ℕ × Draft)) → LinesAre ns bits known steering held a l → EndsAs ns bits′ known′ steering (l .tally) (finishOf a) r
+    (a : Result (ℕ × Draft)) → LinesAre ns bits known steering held a l → EndsAs ns bits′ known′ steering (l .summary) (finishOf a) r
 
 -- ---- the whole text
 
 -- the record beside a refusal
 abbrev pub noNetwork : Network
-noNetwork = record { nodes = replicate 1032 0; bits = replicate 129 0; known = replicate 129 0; steering = replicate 129 0; tally = emptyTally; «steering_count» = 0; «start_length» = 0 }
+noNetwork = record { nodes = replicate 1032 0; bits = replicate 129 0; known = replicate 129 0; steering = replicate 129 0; summary = emptySummary; «steering_count» = 0; «start_length» = 0 }
 
-abbrev pub FilledIf : Verdict → Network → Type 0
-FilledIf Accepted r = Filled r
-FilledIf (Rejected number place) r = r ≡ noNetwork
+abbrev pub RecordCompleteIf : Acceptance → Network → Type 0
+RecordCompleteIf Accepted r = RecordComplete r
+RecordCompleteIf (Rejected number place) r = r ≡ noNetwork
 
 pub record IsReading (t : Bytes) (r : Reading) : Type 0 where
   pub reads : readingOf r ≡ readNetwork t
-  pub filled : FilledIf (r .verdict) (r .network)
+  pub filled : RecordCompleteIf (r .verdict) (r .network)

@@ -7,7 +7,7 @@ use network_words::bit_at;
 ghost use mathlib.Core.Path.{_≡_};
 ghost use Prim.Native.Nat.{_≤_};
 ghost use Rattle.network_words.specs.Words.{wordWidth};
-ghost use Rattle.network_draft.specs.Draws.{Short};
+ghost use Rattle.network_draft.specs.Represents.{Short};
 ghost use Rattle.network_reader.specs.Counts.{countIn, countFrom};
 
 // The bits that are set among the first len of a word.

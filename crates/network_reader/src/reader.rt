@@ -8,7 +8,7 @@ use network_draft::add::add_node;
 use network_draft::add::add_out;
 use network_draft::add::add_read;
 use network_draft::add::add_write;
-use network_draft::store::Tally;
+use network_draft::store::Summary;
 use network_line::Entry;
 use network_line::parse;
 use network_path::layout::Nodes;
@@ -21,7 +21,7 @@ ghost use Prim.Native.Nat.{ℕ, _≤_};
 ghost use lib.ListN.{length};
 ghost use Rattle.model.specs.Result.{Result};
 ghost use Rattle.model.specs.NetworkText.{Draft, noLines};
-ghost use Rattle.network_draft.specs.Draws.{Draws, Drafted, emptyTally};
+ghost use Rattle.network_draft.specs.Represents.{Represents, Drafted, emptySummary};
 ghost use Rattle.network_reader.specs.Reads.{LineAdded, LinesAre, LinesRead, Begun, StartWalked, LinesFinished, noNetwork, IsReading};
 
 // The record of a network; its last two counts are of the distinct steering bits and of the bits of the start's path.
@@ -30,26 +30,26 @@ pub struct Network {
     pub bits: Words,
     pub known: Words,
     pub steering: Words,
-    pub tally: Tally,
+    pub summary: Summary,
     pub steering_count: usize,
     pub start_length: usize,
 }
 
-pub enum Verdict {
+pub enum Acceptance {
     Accepted,
     Refused(usize, usize),
 }
 
 // The verdict on a text, with the record beside it where the text is accepted.
 pub struct Reading {
-    pub verdict: Verdict,
+    pub verdict: Acceptance,
     pub network: Network,
 }
 
 // What the lines of a text leave: a refusal or none, the counts and targets, and the number behind the last line.
 pub struct Lines {
     pub refusal: Refusal,
-    pub tally: Tally,
+    pub summary: Summary,
     pub next: usize,
 }
 
@@ -59,10 +59,10 @@ pub enum Ending {
     Recorded(usize, usize),
 }
 
-fn answer(refusal: Refusal, tally: Tally) -> Added
-    ensures { λ r. ⌜ (r .refusal ≡ refusal) × (r .tally ≡ tally) ⌝ }
+fn answer(refusal: Refusal, summary: Summary) -> Added
+    ensures { λ r. ⌜ (r .refusal ≡ refusal) × (r .summary ≡ summary) ⌝ }
 {
-    Added { refusal, tally }
+    Added { refusal, summary }
 }
 
 // Line n.
@@ -72,7 +72,7 @@ fn add_line(
     known: &mut Words,
     steering: &mut Words,
     held: &mut [u16; 129],
-    t: Tally,
+    t: Summary,
     line: &[u8],
     n: usize,
 ) -> Added
@@ -96,10 +96,10 @@ fn add_line(
     }
 }
 
-fn empty_tally() -> Tally
-    ensures { λ r. ⌜ r ≡ emptyTally ⌝ }
+fn empty_summary() -> Summary
+    ensures { λ r. ⌜ r ≡ emptySummary ⌝ }
 {
-    Tally {
+    Summary {
         count: 0,
         total: 0,
         has_out: false,
@@ -111,12 +111,12 @@ fn empty_tally() -> Tally
     }
 }
 
-fn left(refusal: Refusal, tally: Tally, next: usize) -> Lines
-    ensures { λ r. ⌜ (r .refusal ≡ refusal) × (r .tally ≡ tally) × (r .next ≡ next) ⌝ }
+fn left(refusal: Refusal, summary: Summary, next: usize) -> Lines
+    ensures { λ r. ⌜ (r .refusal ≡ refusal) × (r .summary ≡ summary) × (r .next ≡ next) ⌝ }
 {
     Lines {
         refusal,
-        tally,
+        summary,
         next,
     }
 }
@@ -130,44 +130,53 @@ fn read_lines(
     steering: &mut Words,
     held: &mut [u16; 129],
 ) -> Lines
-    requires { ⌜ (length (now text) ≤ 16384) × Draws (now nodes) (now bits) (now known) (now steering) (now held) emptyTally noLines 1 ⌝ }
+    requires { ⌜ (length (now text) ≤ 16384) × Represents (now nodes) (now bits) (now known) (now steering) (now held) emptySummary noLines 1 ⌝ }
     ensures { λ r. ⌜ LinesRead (now (text .entry)) r (now (nodes .exit)) (now (bits .exit)) (now (known .exit)) (now (steering .exit)) (now (held .exit)) ⌝ }
 {
-    let mut tally = empty_tally();
+    let mut summary = empty_summary();
     let mut at: usize = 0;
     let mut n: usize = 1;
     while at < text.len() {
         let end = text::end_of(text, at, b'\n');
         if end == text.len() {
-            return left(Refusal::Refused(1, n), tally, n);
+            return left(Refusal::Refused(1, n), summary, n);
         }
-        let added = add_line(nodes, bits, known, steering, held, tally, &text[at..end], n);
+        let added = add_line(
+            nodes,
+            bits,
+            known,
+            steering,
+            held,
+            summary,
+            &text[at..end],
+            n,
+        );
         let refusal = added.refusal;
-        tally = added.tally;
+        summary = added.summary;
         match refusal {
             Refusal::Refused(number, place) => {
-                return left(Refusal::Refused(number, place), tally, n);
+                return left(Refusal::Refused(number, place), summary, n);
             }
             Refusal::Nothing => {}
         }
         at = end + 1;
         n += 1;
     }
-    left(Refusal::Nothing, tally, n)
+    left(Refusal::Nothing, summary, n)
 }
 
 // A refusal, with an empty record.
 fn rejected(number: usize, place: usize) -> Reading
-    ensures { λ r. ⌜ (r .verdict ≡ Verdict.Refused number place) × (r .network ≡ noNetwork) ⌝ }
+    ensures { λ r. ⌜ (r .verdict ≡ Acceptance.Refused number place) × (r .network ≡ noNetwork) ⌝ }
 {
     Reading {
-        verdict: Verdict::Refused(number, place),
+        verdict: Acceptance::Refused(number, place),
         network: Network {
             nodes: [0; 1032],
             bits: [0; 129],
             known: [0; 129],
             steering: [0; 129],
-            tally: empty_tally(),
+            summary: empty_summary(),
             steering_count: 0,
             start_length: 0,
         },
@@ -180,7 +189,7 @@ fn walk_start<'a>(
     bits: &'a Words,
     known: &'a Words,
     steering: &'a Words,
-    t: Tally,
+    t: Summary,
 ) -> Ending
     requires { ⌜ ((d : Draft) × ((n : ℕ) × Begun (now nodes) (now bits) (now known) (now steering) t d n)) ⌝ }
     ensures { λ r. ⌜ StartWalked (now (nodes .entry)) (now (bits .entry)) (now (known .entry)) (now (steering .entry)) t r ⌝ }
@@ -215,7 +224,7 @@ fn finish<'a>(
         }
         Refusal::Nothing => {}
     }
-    let t = lines.tally;
+    let t = lines.summary;
     if !t.has_out {
         return Ending::Refused(4, lines.next);
     }
@@ -243,18 +252,18 @@ pub fn read_network(text: &[u8]) -> Reading
         &mut steering,
         &mut held,
     );
-    let tally = lines.tally;
+    let summary = lines.summary;
     let ending = finish(&nodes, &mut bits, &mut known, &steering, &held, lines);
     match ending {
         Ending::Refused(number, place) => rejected(number, place),
         Ending::Recorded(count, length) => Reading {
-            verdict: Verdict::Accepted,
+            verdict: Acceptance::Accepted,
             network: Network {
                 nodes,
                 bits,
                 known,
                 steering,
-                tally,
+                summary,
                 steering_count: count,
                 start_length: length,
             },

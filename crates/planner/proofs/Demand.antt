@@ -16,11 +16,11 @@ use Rattle.marker.proofs.Demand.{verdict-pass}
 use Rattle.marker.specs.Marks.{gotsOf}
 use Rattle.planner_text.specs.declared.Planned.{Planned}
 use Rattle.planner_text.specs.declared.Planned.the-variants.{Written, Refused}
-use Rattle.planner_text.specs.Writing.{answerOf}
+use Rattle.planner_text.specs.Writing.{plannedAnswer}
 use Rattle.planner.specs.Demand.{PlanWritten, Outcome, no-plan, a-plan, PlansExactly, RefusesOnlyShort}
 
 -- an answer is told by its number and values
-answer-refused : (a : Planned) (number place : ℕ) → answerOf a ≡ refused number place → a ≡ Refused number place
+answer-refused : (a : Planned) (number place : ℕ) → plannedAnswer a ≡ refused number place → a ≡ Refused number place
 answer-refused (Written count) number place e = absurd (not-ok (sym e))
 answer-refused (Refused x y) number place e = let p = refusal-number e in let q = refusal-place e in rw (p, q)
 
@@ -31,7 +31,7 @@ plans-exactly n net search plan a search′ plan′ made accepted few enough roo
     exact = planner n net search plan accepted few enough room
 
     there : a ≡ Refused 11 0 → (other : Plan) → ValidPlan net other → 16 < length other
-    there e = exact .none-exactly .0 (sym (made .result) ∙ ap answerOf e)
+    there e = exact .none-exactly .0 (sym (made .result) ∙ ap plannedAnswer e)
 
     back : ((other : Plan) → ValidPlan net other → 16 < length other) → a ≡ Refused 11 0
     back f = answer-refused a 11 0 (made .result ∙ exact .none-exactly .1 f)
@@ -46,13 +46,13 @@ plans-exactly n net search plan a search′ plan′ made accepted few enough roo
     }
 
     by : (b : Planned) → a ≡ b → Outcome n net a plan′
-    by (Written count) e = a-plan count e (written count (exact .otherwise count (sym (made .result) ∙ ap answerOf e)))
+    by (Written count) e = a-plan count e (written count (exact .otherwise count (sym (made .result) ∙ ap plannedAnswer e)))
     by (Refused number place) e =
-        let x = exact .only-11 number place (sym (made .result) ∙ ap answerOf e) in
+        let x = exact .only-11 number place (sym (made .result) ∙ ap plannedAnswer e) in
         no-plan (e ∙ ap (λ (k : ℕ). Refused k place) (x .0) ∙ ap (Refused 11) (x .1))
 
 pub refuses-only-short : RefusesOnlyShort
 refuses-only-short n search plan a search′ plan′ made = record {
-  twelve = λ place e. limits n search plan .twelve place (sym (made .result) ∙ ap answerOf e);
-  thirteen = λ place e. limits n search plan .thirteen place (sym (made .result) ∙ ap answerOf e);
+  twelve = λ place e. limits n search plan .twelve place (sym (made .result) ∙ ap plannedAnswer e);
+  thirteen = λ place e. limits n search plan .thirteen place (sym (made .result) ∙ ap plannedAnswer e);
 }

@@ -8,19 +8,19 @@ use Rattle.model.specs.Result.{ok}
 use Rattle.model.specs.Calls.{writeOver, written, countOf, searchEntries, planned}
 use Rattle.model.proofs.Accepted.{Accepted}
 use Rattle.network_reader.specs.declared.reader.Network.{Network}
-use Rattle.network_reader.specs.Reads.{networkOf, Filled}
+use Rattle.network_reader.specs.Reads.{recordedNetwork, RecordComplete}
 use Rattle.planner_text.specs.declared.Planned.{Planned}
-use Rattle.planner_text.specs.Writing.{answerOf}
+use Rattle.planner_text.specs.Writing.{plannedAnswer}
 
 -- an accepted network that came past the checks 10 and 12
 pub record Searchable (r : Network) (search : List ℕ) : Type 0 where
-  pub filled : Filled r
-  pub accepted : Accepted (networkOf r)
+  pub filled : RecordComplete r
+  pub accepted : Accepted (recordedNetwork r)
   pub few : r .«steering_count» ≤ 6
   pub enough : 11664 ≤ length search
 
 -- the answer to it, the search space and the plan buffer
 pub record PlansIn (r : Network) (search plan : List ℕ) (a : Planned) (search′ plan′ : List ℕ) : Type 0 where
-  pub result : answerOf a ≡ countOf (planned (ok (networkOf r)) (length plan))
+  pub result : plannedAnswer a ≡ countOf (planned (ok (recordedNetwork r)) (length plan))
   pub search-left : search′ ≡ writeOver (replicate searchEntries 0) search
-  pub plan-left : plan′ ≡ written (planned (ok (networkOf r)) (length plan)) plan
+  pub plan-left : plan′ ≡ written (planned (ok (recordedNetwork r)) (length plan)) plan

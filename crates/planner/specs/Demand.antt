@@ -18,11 +18,11 @@ use Rattle.marker.specs.declared.targets.Verdict.the-variants.{Pass}
 use Rattle.marker.specs.Demand.{MarkReturned}
 use Rattle.planner_text.specs.declared.Planned.{Planned}
 use Rattle.planner_text.specs.declared.Planned.the-variants.{Written, Refused}
-use Rattle.planner_text.specs.Writing.{answerOf}
+use Rattle.planner_text.specs.Writing.{plannedAnswer}
 
 -- the contract: `make_plan` returned a, and left the search space as search′ and the plan buffer as plan′
 pub record MadePlan (n : Bytes) (search plan : List ℕ) (a : Planned) (search′ plan′ : List ℕ) : Type 0 where
-  pub result : answerOf a ≡ makePlan n search plan .result
+  pub result : plannedAnswer a ≡ makePlan n search plan .result
   pub search-left : search′ ≡ makePlan n search plan .search
   pub plan-left : plan′ ≡ makePlan n search plan .plan
 

@@ -1,7 +1,7 @@
 // The planner: a network text to the plan with the fewest operations.
 use network_path::layout::wide;
+use network_reader::reader::Acceptance;
 use network_reader::reader::Network;
-use network_reader::reader::Verdict;
 use network_reader::reader::read_network;
 use planner_rows::Rows;
 use planner_rows::power_of_2;
@@ -15,7 +15,7 @@ use planner_text::write_plan;
 ghost use mathlib.Core.Path.{_≡_};
 ghost use Prim.Native.Nat.{_≤_};
 ghost use Rattle.model.specs.Calls.{makePlan};
-ghost use Rattle.planner_text.specs.Writing.{answerOf};
+ghost use Rattle.planner_text.specs.Writing.{plannedAnswer};
 ghost use Rattle.planner.specs.Call.{Searchable, PlansIn};
 
 // The most steering bits, and the entries of the search space.
@@ -26,12 +26,12 @@ const ENTRIES: usize = 11664;
 // The search for the plan of a network with targets: 11, or its text.
 fn search_network(net: Network, search: &mut [u16], plan: &mut [u8]) -> Planned
     requires { ⌜ Searchable net (now search) ⌝ }
-    requires { ⌜ 1 ≤ net .tally .«target_count» ⌝ }
+    requires { ⌜ 1 ≤ net .summary .«target_count» ⌝ }
     ensures { λ r. ⌜ PlansIn net (now (search .entry)) (now (plan .entry)) r (now (search .exit)) (now (plan .exit)) ⌝ }
 {
-    let problem = problem_of(&net.nodes, &net.steering, net.tally);
+    let problem = problem_of(&net.nodes, &net.steering, net.summary);
     let start = setting_number(&net.bits, &net.known, problem);
-    let full = wide(power_of_2(problem.tally.target_count)) - 1;
+    let full = wide(power_of_2(problem.summary.target_count)) - 1;
     let mut rows: Rows = [0; 8019];
     let mut picked = [0u8; 16];
     let found = find_plan(
@@ -64,7 +64,7 @@ fn plan_network(net: Network, search: &mut [u16], plan: &mut [u8]) -> Planned
     requires { ⌜ Searchable net (now search) ⌝ }
     ensures { λ r. ⌜ PlansIn net (now (search .entry)) (now (plan .entry)) r (now (search .exit)) (now (plan .exit)) ⌝ }
 {
-    let t = net.tally;
+    let t = net.summary;
     if t.target_count == 0 {
         clear(search);
         return Planned::Written(0);
@@ -74,7 +74,7 @@ fn plan_network(net: Network, search: &mut [u16], plan: &mut [u8]) -> Planned
 
 // The planner: the network's refusals, then 10, 12, 11, 13. The plan's text goes to the front of plan.
 pub fn make_plan(network: &[u8], search: &mut [u16], plan: &mut [u8]) -> Planned
-    ensures { λ r. ⌜ answerOf r ≡ makePlan (now (network .entry)) (now (search .entry)) (now (plan .entry)) .result ⌝ }
+    ensures { λ r. ⌜ plannedAnswer r ≡ makePlan (now (network .entry)) (now (search .entry)) (now (plan .entry)) .result ⌝ }
     ensures { λ r. ⌜ now (search .exit) ≡ makePlan (now (network .entry)) (now (search .entry)) (now (plan .entry)) .search ⌝ }
     ensures { λ r. ⌜ now (plan .exit) ≡ makePlan (now (network .entry)) (now (search .entry)) (now (plan .entry)) .plan ⌝ }
 {
@@ -82,10 +82,10 @@ pub fn make_plan(network: &[u8], search: &mut [u16], plan: &mut [u8]) -> Planned
     let verdict = reading.verdict;
     let net = reading.network;
     match verdict {
-        Verdict::Refused(number, place) => {
+        Acceptance::Refused(number, place) => {
             return Planned::Refused(number, place);
         }
-        Verdict::Accepted => {}
+        Acceptance::Accepted => {}
     }
     if MOST_STEERING < net.steering_count {
         return Planned::Refused(10, net.steering_count);

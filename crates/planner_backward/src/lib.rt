@@ -22,7 +22,7 @@ ghost use Rattle.planner_theory.specs.Moves.{allOf, sysOf};
 ghost use Rattle.planner_settings.specs.Route.{Plannable, Each};
 ghost use Rattle.planner_rows.specs.Rows.{RowsRight, Landing, OfRow};
 ghost use Rattle.planner_table.specs.Table.{SlotKnown};
-ghost use Rattle.planner_forward.specs.Spreading.{Met, Starts};
+ghost use Rattle.planner_forward.specs.Spreading.{Met, SearchStarts};
 ghost use Rattle.planner_backward.specs.Keeping.{Filtered, FilteredSets, enters, leads, UnionOf, Useful};
 
 // Of these sets, the one with which setting x is a goal.
@@ -147,7 +147,7 @@ pub fn keep_all<'a>(
     requires { ⌜ RowsRight (now nodes) (now steering) problem (now rows) ⌝ }
     requires { ⌜ (11664 ≤ length (now table)) × (full < 16) × (d ≤ 16) ⌝ }
     ensures { λ _. ⌜ RowsRight (now (nodes .entry)) (now (steering .entry)) problem (now (rows .exit)) ⌝ }
-    ensures { λ _. ⌜ Each (now (nodes .entry)) (now (steering .entry)) problem (λ net. Starts net start full → Met net (start * 16) (now (table .entry)) d → Useful net (start * 16) d (now (table .entry)) (now (table .exit))) ⌝ }
+    ensures { λ _. ⌜ Each (now (nodes .entry)) (now (steering .entry)) problem (λ net. SearchStarts net start full → Met net (start * 16) (now (table .entry)) d → Useful net (start * 16) d (now (table .entry)) (now (table .exit))) ⌝ }
 {
     let mut i = d;
     while 0 < i {

@@ -23,8 +23,8 @@ use Rattle.planner_theory.specs.Layers.{Earlier, Layers}
 use Rattle.planner_theory.proofs.Forward.{earlier-same, stepped-same, layers-same, layers-start, layers-next, layers-empty, nothing-up-to}
 use Rattle.planner_theory.proofs.MoveLaws.{gain-within, land-within}
 use Rattle.planner_table.specs.Table.{inSlot, inSeen, layersOf, Others, Known, SlotKnown}
 use Rattle.planner_forward.specs.Goals.{SetsIn, GoalIn}
-use Rattle.planner_forward.specs.Spreading.{Spread, Next, Met, Starts}
+use Rattle.planner_forward.specs.Spreading.{Spread, Next, Met, SearchStarts}
 use Rattle.planner_table.proofs.SetLaws.{together-small}
 use Rattle.planner_table.proofs.SlotLaws.{slot-beyond, slot-other}
 
@@ -68,7 +68,7 @@ seen-start n start s lt e = by (eqb start (s / 16)) refl
         let w : _≡_ {A = ℕ} (getD (set (replicate n 0) start 1) (s / 16) 0) 0 = getD-set-other (replicate n 0) start (s / 16) 1 0 (λ q. eqb-false start (s / 16) z (sym q)) ∙ zero-at n (s / 16) in
         absurd (true-false (sym e ∙ ap (λ (v : ℕ). wordBit v (s % 16)) w ∙ zero-bit (s % 16)))
 
-module _ (net : Network) (start full : ℕ) (starts : Starts net start full) (tab seen : List ℕ) where
+module _ (net : Network) (start full : ℕ) (starts : SearchStarts net start full) (tab seen : List ℕ) where
   pub forward-start : ((n : ℕ) → n < 11664 → getD tab n 0 ≡ 0) → ((s : ℕ) → inSeen seen s ≡ true → s ≡ start * 16) → Forward net (start * 16) 0 tab seen
   unfolding layersOf
   forward-start none met = record {

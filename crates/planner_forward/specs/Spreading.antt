@@ -49,7 +49,7 @@ abbrev pub Next : Network → ℕ → List ℕ → ℕ → ℕ → Type 0
 Next net start tab i s = Stepped (sysOf net) (layersOf start tab) i s
 
 -- a start in a setting of the network, and the number of all targets, of which there is one at least
-pub record Starts (net : Network) (start full : ℕ) : Type 0 where
+pub record SearchStarts (net : Network) (start full : ℕ) : Type 0 where
   pub within : start < 3 ^ length (steeringBits (net .nodes))
   pub all : full ≡ allOf (net .targets)
   pub one : 1 ≤ full

@@ -20,8 +20,8 @@ ghost use lib.ListN.{length, getD};
 ghost use Rattle.planner_settings.specs.Route.{Plannable, Each};
 ghost use Rattle.planner_rows.specs.Rows.{RowsRight, Landing, OfRow};
 ghost use Rattle.planner_table.specs.Table.{OnlySlot, Known};
 ghost use Rattle.planner_forward.specs.Goals.{SetsIn};
-ghost use Rattle.planner_forward.specs.Spreading.{Spread, AtSetting, Arrives, Leaves, Next, Met, Starts};
+ghost use Rattle.planner_forward.specs.Spreading.{Spread, AtSetting, Arrives, Leaves, Next, Met, SearchStarts};
 
 // The states met, a set of sets of targets for each setting.
 pub type Seen = [u16; 729];
@@ -129,7 +129,7 @@ pub fn find_layer<'a>(
     requires { ⌜ (start < 729) × (full < 16) ⌝ }
     ensures { λ _. ⌜ RowsRight (now (nodes .entry)) (now (steering .entry)) problem (now (rows .exit)) ⌝ }
     ensures { λ _. ⌜ (length (now (table .exit)) ≡ length (now (table .entry))) × ((n : ℕ) → 11664 ≤ n → getD (now (table .exit)) n 0 ≡ getD (now (table .entry)) n 0) ⌝ }
-    ensures { λ r. ⌜ Each (now (nodes .entry)) (now (steering .entry)) problem (λ net. Starts net start full → Met net (start * 16) (now (table .exit)) r) ⌝ }
+    ensures { λ r. ⌜ Each (now (nodes .entry)) (now (steering .entry)) problem (λ net. SearchStarts net start full → Met net (start * 16) (now (table .exit)) r) ⌝ }
 {
     let mut seen: Seen = [0; 729];
     seen[start] = 1;

@@ -17,21 +17,21 @@ use Rattle.model.proofs.Lists.{getD-tabulate}
 use Rattle.network_words.specs.Words.{wordBit}
 use Rattle.network_path.specs.Layout.{nodeAt}
 use Rattle.network_words.proofs.WordLaws.{zero-bit}
-use Rattle.network_draft.specs.declared.store.Tally.{Tally}
-use Rattle.network_draft.specs.Draws.{targetAt, targetsOf}
-use Rattle.planner_settings.specs.Route.{Blank, TargetsWithin}
+use Rattle.network_draft.specs.declared.store.Summary.{Summary}
+use Rattle.network_draft.specs.Represents.{targetAt, targetsOf}
+use Rattle.planner_settings.specs.Route.{Unmarked, TargetsWithin}
 use Rattle.planner_line.specs.Line.{WantsOf, wantsWith}
 
-abbrev targetsFrom : List ℕ → Tally → ℕ → List Target
+abbrev targetsFrom : List ℕ → Summary → ℕ → List Target
 targetsFrom ns t i = tabulate (targetAt ns t) i (t .«target_count» - i)
 
 -- the words of the targets from number i on
-pub record Wanting (t : Tally) (i : ℕ) (wants : List ℕ) : Type 0 where
+pub record Wanting (t : Summary) (i : ℕ) (wants : List ℕ) : Type 0 where
   pub within : i ≤ t .«target_count»
   pub size : length wants ≡ 129
   pub are : (s : ℕ) → s ≤ 128 → (ns : List ℕ) (b : ℕ) → b < lenOf (nodeAt ns s) → wordBit (getD wants s 0) b ≡ wanted (targetsFrom ns t i) s b
 
-pub wanting-none : (t : Tally) (wants : List ℕ) → Blank wants → Wanting t (t .«target_count») wants
+pub wanting-none : (t : Summary) (wants : List ℕ) → Unmarked wants → Wanting t (t .«target_count») wants
 unfolding wanted
 wanting-none t wants z = record {
   within = omega arith;
@@ -50,7 +50,7 @@ with-read s word bits wants e = rw (ne-eqb word 1 e)
 pub with-write : (s word bits : ℕ) (wants : List ℕ) (r : ℕ) → r ≡ s → word ≡ 1 → set wants r bits ≡ wantsWith s word bits wants
 with-write s word bits wants r is e = rw (eq-eqb word 1 e, is)
 
-module _ (t : Tally) (i : ℕ) where
+module _ (t : Summary) (i : ℕ) where
   abbrev segment : ℕ
   segment = getD (t .«target_segment») i 0
 
@@ -104,7 +104,7 @@ module _ (t : Tally) (i : ℕ) where
       long false = w .size
 
 -- the turn of the loop
-pub wanting-more : {t : Tally} (i : ℕ) → 0 < i → {wants new : List ℕ} → Wanting t i wants → TargetsWithin t
+pub wanting-more : {t : Summary} (i : ℕ) → 0 < i → {wants new : List ℕ} → Wanting t i wants → TargetsWithin t
     → new ≡ wantsWith (segment t (i - 1)) (word t (i - 1)) (bits t (i - 1)) wants → Wanting t (i - 1) new
 wanting-more {t} i l {wants} w low put =
     let e : i ≡ i - 1 + 1 = omega arith in
@@ -112,7 +112,7 @@ wanting-more {t} i l {wants} w low put =
 
 -- ---- all targets
 
-pub wanting-all : {t : Tally} {wants : List ℕ} (i : ℕ) → i ≤ 0 → Wanting t i wants → WantsOf t wants
+pub wanting-all : {t : Summary} {wants : List ℕ} (i : ℕ) → i ≤ 0 → Wanting t i wants → WantsOf t wants
 wanting-all {t} {wants} i l w = record { size = w .size; are = λ s m ns b inside. w .are s m ns b inside ∙ whole ns s b }
   where
     whole : (ns : List ℕ) (s b : ℕ) → wanted (targetsFrom ns t i) s b ≡ wanted (targetsOf ns t) s b

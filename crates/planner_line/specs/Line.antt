@@ -13,19 +13,19 @@ use Rattle.model.specs.Tap.{bitByte}
 use Rattle.network_words.specs.Words.{wordWidth, wordBit}
 use Rattle.network_path.specs.Layout.{nodeAt, scanPath}
 use Rattle.network_path.specs.Answers.{HoldsPath}
-use Rattle.network_draft.specs.declared.store.Tally.{Tally}
-use Rattle.network_draft.specs.Draws.{targetsOf}
+use Rattle.network_draft.specs.declared.store.Summary.{Summary}
+use Rattle.network_draft.specs.Represents.{targetsOf}
 use Rattle.plan_text.specs.Writing.{writeAt, lineText}
 use Rattle.planner_theory.specs.Choices.{placesOf, bitsFrom, leftAfter}
 
 -- ---- a segment
 
 -- the word of bits that the planner shifts to segment s where it does not steer
-abbrev pub WantedWord : Tally → ℕ → ℕ → Type 0
+abbrev pub WantedWord : Summary → ℕ → ℕ → Type 0
 WantedWord t s r = (ns : List ℕ) (b : ℕ) → b < lenOf (nodeAt ns s) → wordBit r b ≡ wanted (targetsOf ns t) s b
 
 -- that word for each segment
-pub record WantsOf (t : Tally) (wants : List ℕ) : Type 0 where
+pub record WantsOf (t : Summary) (wants : List ℕ) : Type 0 where
   pub size : length wants ≡ 129
   pub are : (s : ℕ) → s ≤ 128 → WantedWord t s (getD wants s 0)
 

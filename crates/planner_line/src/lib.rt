@@ -1,6 +1,6 @@
 // The line of one operation in the plan text, from the number of a choice: each steering bit on the path takes the next binary
 // digit of the choice, the highest first, and every other bit what the planner shifts there, by a list of words for all lines.
-use network_draft::store::Tally;
+use network_draft::store::Summary;
 use network_path::layout::Nodes;
 use network_path::layout::Way;
 use network_path::layout::Words;
@@ -20,8 +20,8 @@ ghost use Rattle.model.specs.Path.{pathLength};
 ghost use Rattle.model.specs.Tap.{bitByte};
 ghost use Rattle.network_words.specs.Words.{wordWidth, wordBit};
 ghost use Rattle.network_path.specs.Layout.{scanPath};
-ghost use Rattle.network_draft.specs.Draws.{Tame};
-ghost use Rattle.planner_settings.specs.Route.{Blank, TargetsWithin};
+ghost use Rattle.network_draft.specs.Represents.{InLimits};
+ghost use Rattle.planner_settings.specs.Route.{Unmarked, TargetsWithin};
 ghost use Rattle.planner_line.specs.Line.{wantsWith, WantsOf, ZerosFrom, KeptFrom, SegmentPut, HasRoom, OperationPut, LinePut};
 
 // The bits of a target, by its segment and its word, become its segment's word in wants if it is a write target.
@@ -36,8 +36,8 @@ fn want_target(segment: u16, word: u16, bits: Word, wants: &mut Words)
 }
 
 // For each segment the word that the planner shifts to its bits that do not steer: the bits of its first write target, else 0.
-pub fn list_wants(t: Tally, wants: &mut Words)
-    requires { ⌜ (Tame t) × TargetsWithin t × Blank (now wants) ⌝ }
+pub fn list_wants(t: Summary, wants: &mut Words)
+    requires { ⌜ (InLimits t) × TargetsWithin t × Unmarked (now wants) ⌝ }
     ensures { λ _. ⌜ WantsOf t (now (wants .exit)) ⌝ }
 {
     let mut i = t.target_count;

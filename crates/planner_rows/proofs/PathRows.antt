@@ -34,7 +34,7 @@ module _ (pb : Problem) (way : List ℕ) (n : ℕ) (arr : List ℕ) (m : ℕ) (o
 
   -- ---- the row
 
-  module _ (marks : List ℕ) (marked : PathMarked way n marks) (x width mask base len : ℕ) (wide : width ≡ 2 ^ m) (masked : MaskBy marks (pb .tally) mask) (based : BaseBy marks (pb .segments) (pb .width) x base)
+  module _ (marks : List ℕ) (marked : PathMarked way n marks) (x width mask base len : ℕ) (wide : width ≡ 2 ^ m) (masked : MaskBy marks (pb .summary) mask) (based : BaseBy marks (pb .segments) (pb .width) x base)
       (old new : List ℕ) (row : RowWritten old x width mask base len arr m new) where
     row-of : (net : Network) (ns steering : List ℕ) → len ≡ pathLength (scanPath ns (take n way)) → PathIs net ns steering pb way n x → RowOf net new x
     row-of net ns steering long q = record {

@@ -126,7 +126,7 @@ fn write_path<'a>(
         problem.width,
         &mut order,
     );
-    let gain = mask_of_targets(&marks, problem.tally);
+    let gain = mask_of_targets(&marks, problem.summary);
     let base = base_of(&marks, &problem.segments, problem.width, x);
     let len = path_length(nodes, way, n);
     write_row(

@@ -12,7 +12,7 @@ ghost use lib.ListN.{length, replicate};
 ghost use Rattle.model.specs.Calls.{writeOver, searchEntries};
 ghost use Rattle.planner_settings.specs.Route.{Plannable, Each};
 ghost use Rattle.planner_rows.specs.Rows.{RowsRight};
-ghost use Rattle.planner_forward.specs.Spreading.{Starts};
+ghost use Rattle.planner_forward.specs.Spreading.{SearchStarts};
 ghost use Rattle.planner_search.specs.Plans.{PlanFound};
 
 pub enum Found {
@@ -48,7 +48,7 @@ pub fn find_plan<'a>(
     requires { ⌜ Plannable (now nodes) (now steering) problem ⌝ }
     requires { ⌜ RowsRight (now nodes) (now steering) problem (now rows) ⌝ }
     requires { ⌜ (11664 ≤ length (now table)) × (start < 729) × (full < 16) × (16 ≤ length (now out)) ⌝ }
-    requires { ⌜ Each (now nodes) (now steering) problem (λ net. Starts net start full) ⌝ }
+    requires { ⌜ Each (now nodes) (now steering) problem (λ net. SearchStarts net start full) ⌝ }
     ensures { λ _. ⌜ RowsRight (now (nodes .entry)) (now (steering .entry)) problem (now (rows .exit)) ⌝ }
     ensures { λ r. ⌜ Each (now (nodes .entry)) (now (steering .entry)) problem (λ net. PlanFound net start (now (out .entry)) r (now (out .exit))) ⌝ }
     ensures { λ _. ⌜ now (table .exit) ≡ writeOver (replicate searchEntries 0) (now (table .entry)) ⌝ }

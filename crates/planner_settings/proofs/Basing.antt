@@ -13,8 +13,8 @@ use borrow.Author.Tests.{eq-eqb, ne-eqb}
 use Rattle.model.specs.Network.{tabulate}
 use Rattle.model.specs.Path.{ScanPath, bitValue, on}
 use Rattle.network_words.proofs.WordLaws.{value-is}
-use Rattle.network_draft.specs.declared.store.Tally.{Tally}
-use Rattle.network_draft.specs.Draws.{Tame, targetAt}
+use Rattle.network_draft.specs.declared.store.Summary.{Summary}
+use Rattle.network_draft.specs.Represents.{InLimits, targetAt}
 use Rattle.network_draft.proofs.TargetLaws.{target-names}
 use Rattle.planner_theory.specs.Settings.{baseOf}
 use Rattle.planner_theory.specs.Moves.{maskOf, onPath}
@@ -76,12 +76,12 @@ module _ (marks segments : List ℕ) (k : ℕ) (few : k ≤ 6) (x : ℕ) where
 
 -- ---- the targets on the path
 
-pub record Masked (marks : List ℕ) (t : Tally) (i mask : ℕ) : Type 0 where
+pub record Masked (marks : List ℕ) (t : Summary) (i mask : ℕ) : Type 0 where
   pub passed : i ≤ t .«target_count»
   pub is : (ns : List ℕ) (p : ScanPath) → MarksOf marks p → mask ≡ maskOf (onPath p) (tabulate (targetAt ns t) i (t .«target_count» - i))
   pub small : mask < 2 ^ (t .«target_count» - i)
 
-module _ (marks : List ℕ) (t : Tally) (tame : Tame t) where
+module _ (marks : List ℕ) (t : Summary) (in-limits : InLimits t) where
   pub masked-none : Masked marks t (t .«target_count») 0
   unfolding maskOf
   masked-none = record {
@@ -93,7 +93,7 @@ module _ (marks : List ℕ) (t : Tally) (tame : Tame t) where
   module _ (i mask : ℕ) (q : Masked marks t i mask) where
     pub masked-small : mask < 16
     masked-small =
-        omega (arith, q .small, pow-le-pow-right {n = 2} (omega arith) {j = 4} (let z : t .«target_count» - i ≤ 4 = omega (arith, tame .targets-fit) in z))
+        omega (arith, q .small, pow-le-pow-right {n = 2} (omega arith) {j = 4} (let z : t .«target_count» - i ≤ 4 = omega (arith, in-limits .targets-fit) in z))
 
     pub masked-more : (s : ℕ) → 0 < i → s ≡ getD (t .«target_segment») (i - 1) 0 → s ≤ 128 → getD marks s 0 ≤ 1 → Masked marks t (i - 1) (mask * 2 + getD marks s 0)
     unfolding maskOf

@@ -16,7 +16,7 @@ use Rattle.network_path.specs.Layout.{scanPath}
 use Rattle.network_path.specs.Answers.{HoldsPath}
 use Rattle.network_path.proofs.PathLaws.{segment-on}
 use Rattle.network_words.proofs.WordLaws.{value-small}
-use Rattle.planner_settings.specs.Route.{Blank, MarksOf, PathMarked, Flags}
+use Rattle.planner_settings.specs.Route.{Unmarked, MarksOf, PathMarked, Flags}
 
 -- ---- one segment more
 
@@ -44,7 +44,7 @@ marks-more marks ns ks k sized small m s l = by (eqb k s) refl (on (scanPath ns 
 -- ---- the loop: the first i segments are marked
 
 -- an array of 0
-pub no-marks : Blank (replicate 129 0)
+pub no-marks : Unmarked (replicate 129 0)
 no-marks = record { size = length-replicate {A = ℕ} 129 0; none = λ s l. getD-replicate {A = ℕ} 129 s 0 0 (omega arith) }
 
 pub record MarkedTo (way : List ℕ) (n i : ℕ) (marks : List ℕ) : Type 0 where
@@ -52,7 +52,7 @@ pub record MarkedTo (way : List ℕ) (n i : ℕ) (marks : List ℕ) : Type 0 whe
   pub size : length marks ≡ 129
   pub marked : (ns : List ℕ) → MarksOf marks (scanPath ns (take i way))
 
-pub marked-none : (way : List ℕ) (n : ℕ) (marks : List ℕ) → Blank marks → MarkedTo way n 0 marks
+pub marked-none : (way : List ℕ) (n : ℕ) (marks : List ℕ) → Unmarked marks → MarkedTo way n 0 marks
 marked-none way n marks b = record { passed = omega arith; size = b .size; marked = λ ns. b .none }
 
 module _ (held way : List ℕ) (n : ℕ) (h : HoldsPath held way n) (i : ℕ) (marks : List ℕ) where

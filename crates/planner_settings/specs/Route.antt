@@ -12,8 +12,8 @@ use Rattle.network_path.specs.Layout.{scanPath}
 use Rattle.network_path.specs.Answers.{told, WalkHeld}
 use Rattle.network_path.specs.declared.walk.Walked.{Walked}
 use Rattle.network_path.specs.Stored.{Stored}
-use Rattle.network_draft.specs.declared.store.Tally.{Tally}
-use Rattle.network_draft.specs.Draws.{Tame, targetsOf}
+use Rattle.network_draft.specs.declared.store.Summary.{Summary}
+use Rattle.network_draft.specs.Represents.{InLimits, targetsOf}
 use Rattle.planner_theory.specs.Settings.{walkAt, indicesIn, order, baseOf}
 use Rattle.planner_theory.specs.Moves.{maskOf, onPath}
 use Rattle.planner_steering.specs.declared.Problem.{Problem}
@@ -22,7 +22,7 @@ use Rattle.planner_steering.specs.Steering.{bitsOf, steeringOf}
 -- ---- marks of the segments on a path
 
 -- no marks
-pub record Blank (marks : List ℕ) : Type 0 where
+pub record Unmarked (marks : List ℕ) : Type 0 where
   pub size : length marks ≡ 129
   pub none : (s : ℕ) → s ≤ 128 → getD marks s 0 ≡ 0
 
@@ -69,21 +69,21 @@ pub record BaseBy (marks segments : List ℕ) (k x r : ℕ) : Type 0 where
   pub small : r < 729
 
 -- each target's segment is the number of a node
-abbrev pub TargetsWithin : Tally → Type 0
+abbrev pub TargetsWithin : Summary → Type 0
 TargetsWithin t = (i : ℕ) → i < t .«target_count» → getD (t .«target_segment») i 0 ≤ 128
 
 -- the targets on the path, a binary digit for each
-abbrev pub MaskBy : List ℕ → Tally → ℕ → Type 0
+abbrev pub MaskBy : List ℕ → Summary → ℕ → Type 0
 MaskBy marks t r = (ns : List ℕ) (p : ScanPath) → MarksOf marks p → r ≡ maskOf (onPath p) (targetsOf ns t)
 
 -- ---- the network in the arrays, and its walk in a setting
 
 -- the arrays hold the network and its steering bits, of which there are at most 6
 pub record Prepared (net : Network) (ns steering : List ℕ) (p : Problem) : Type 0 where
-  pub stored : Stored net ns (p .tally .count) (p .tally .out)
+  pub stored : Stored net ns (p .summary .count) (p .summary .out)
   pub accepted : Accepted net
-  pub targets-are : net .targets ≡ targetsOf ns (p .tally)
-  pub tame : Tame (p .tally)
+  pub targets-are : net .targets ≡ targetsOf ns (p .summary)
+  pub in-limits : InLimits (p .summary)
   pub steering-is : (s b : ℕ) → s ≤ 128 → b < wordWidth → wordBit (getD steering s 0) b ≡ steers (net .nodes) s b
   pub bits-are : steeringOf p ≡ steeringBits (net .nodes)
   pub few : p .width ≤ 6

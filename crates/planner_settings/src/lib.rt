@@ -1,6 +1,6 @@
 // The walk in a setting of the steering bits, and what its path has: the steering bits in the order of their places, the targets,
 // and the digits of the steering bits beside it.
-use network_draft::store::Tally;
+use network_draft::store::Summary;
 use network_path::layout::Nodes;
 use network_path::layout::Way;
 use network_path::layout::Words;
@@ -16,16 +16,16 @@ ghost use Prim.Native.Nat.{ℕ, _/_, _%_, _^_, _≤_, _<_};
 ghost use lib.Dec.{eqb};
 ghost use lib.ListN.{length, getD};
 ghost use Rattle.network_path.specs.Answers.{HoldsPath};
-ghost use Rattle.network_draft.specs.Draws.{Tame};
+ghost use Rattle.network_draft.specs.Represents.{InLimits};
 ghost use Rattle.planner_steering.specs.Steering.{Within};
-ghost use Rattle.planner_settings.specs.Route.{Blank, PathMarked, Flags, Room, IndicesBehind, Ordered, Steers, BaseBy, TargetsWithin, MaskBy, Plannable, Each, WalkIs};
+ghost use Rattle.planner_settings.specs.Route.{Unmarked, PathMarked, Flags, Room, IndicesBehind, Ordered, Steers, BaseBy, TargetsWithin, MaskBy, Plannable, Each, WalkIs};
 
 // A mark for each node number from 0 to 128.
 pub type Marks = [u16; 129];
 
 // Marks of the segments on the path whose n segments way holds.
 pub fn mark_path(way: &Way, n: usize, marks: &mut Marks)
-    requires { ⌜ ((ns : List ℕ) × HoldsPath ns (now way) n) × Blank (now marks) ⌝ }
+    requires { ⌜ ((ns : List ℕ) × HoldsPath ns (now way) n) × Unmarked (now marks) ⌝ }
     ensures { λ _. ⌜ PathMarked (now (way .entry)) n (now (marks .exit)) ⌝ }
 {
     let mut i: usize = 0;
@@ -147,8 +147,8 @@ pub fn base_of<'a>(marks: &'a Marks, segments: &'a [u16; 6], k: usize, x: usize)
 }
 
 // The targets whose segments are marked, a binary digit for each.
-pub fn mask_of_targets(marks: &Marks, t: Tally) -> u16
-    requires { ⌜ (Tame t) × TargetsWithin t × Flags (now marks) ⌝ }
+pub fn mask_of_targets(marks: &Marks, t: Summary) -> u16
+    requires { ⌜ (InLimits t) × TargetsWithin t × Flags (now marks) ⌝ }
     ensures { λ r. ⌜ MaskBy (now (marks .entry)) t r ⌝ }
 {
     let mut mask: u16 = 0;
@@ -176,5 +176,5 @@ pub fn walk_setting<'a>(
     let mut bits = [0; 129];
     let mut known = [0; 129];
     set_words(&mut bits, &mut known, problem, x);
-    find_path(nodes, &bits, &known, problem.tally.out, way)
+    find_path(nodes, &bits, &known, problem.summary.out, way)
 }

@@ -22,7 +22,7 @@ use Rattle.planner_theory.specs.Settings.{Distinct, distinct-cons, tritOf, look
 use Rattle.planner_theory.proofs.Steering.{getD-in}
 use Rattle.planner_theory.proofs.SettingNumbers.{look-at, place-other}
 use Rattle.planner_steering.specs.declared.Problem.{Problem}
-use Rattle.planner_steering.specs.Steering.{pairAt, bitsOf, steeringOf, Listed, Cleared, DigitSet, SetTo}
+use Rattle.planner_steering.specs.Steering.{pairAt, bitsOf, steeringOf, SteeringListed, Cleared, DigitSet, SetTo}
 use Rattle.planner_steering.proofs.Listing.{length-bits}
 
 -- ---- clearing
@@ -113,7 +113,7 @@ setting-none pb x bits known p = record {
   marks = λ i a l. rw (p .marks i l) (zero-bit (getD (pb .places) i 0));
 }
 
-module _ (pb : Problem) (ls : Listed pb) where
+module _ (pb : Problem) (ls : SteeringListed pb) where
   other-pair : (i j : ℕ) → i < pb .width → j < pb .width → (i ≡ j → ⊥) → (eqb (getD (pb .segments) j 0) (getD (pb .segments) i 0) && eqb (getD (pb .places) j 0) (getD (pb .places) i 0)) ≡ false
   other-pair i j a b ne = place-other (pairAt (pb .segments) (pb .places) j) (getD (pb .segments) i 0) (getD (pb .places) i 0) (λ e. apart (decLt i j) e)
     where

@@ -10,8 +10,8 @@ use Rattle.model.specs.Network.{tabulate, steers, steeringBits}
 use Rattle.network_words.specs.Words.{wordWidth, wordBit}
 use Rattle.network_path.specs.Layout.{nodesOf, lookIn}
 use Rattle.network_path.specs.Answers.{ConfigSized}
-use Rattle.network_draft.specs.declared.store.Tally.{Tally}
-use Rattle.network_draft.specs.Draws.{Short}
+use Rattle.network_draft.specs.declared.store.Summary.{Summary}
+use Rattle.network_draft.specs.Represents.{Short}
 use Rattle.planner_theory.specs.Settings.{Distinct, lookUp}
 use Rattle.planner_steering.specs.declared.Problem.{Problem}
 
@@ -52,8 +52,8 @@ pub record Steered (ns steering : List ℕ) (count : ℕ) : Type 0 where
   pub few : length (steeringBits (nodesOf ns count)) ≤ 6
 
 -- these counts and targets, with the steering bits of the nodes
-pub record ProblemOf (ns : List ℕ) (t : Tally) (p : Problem) : Type 0 where
-  pub tally-is : p .tally ≡ t
+pub record ProblemOf (ns : List ℕ) (t : Summary) (p : Problem) : Type 0 where
+  pub summary-is : p .summary ≡ t
   pub bits-are : steeringOf p ≡ steeringBits (nodesOf ns (t .count))
   pub few : p .width ≤ 6
 
@@ -64,7 +64,7 @@ abbrev pub Within : List ℕ → ℕ → Type 0
 Within segments k = (j : ℕ) → j < k → getD segments j 0 ≤ 128
 
 -- distinct bits within the words
-pub record Listed (p : Problem) : Type 0 where
+pub record SteeringListed (p : Problem) : Type 0 where
   pub few : p .width ≤ 6
   pub within : Within (p .segments) (p .width)
   pub inside : (j : ℕ) → j < p .width → getD (p .places) j 0 < wordWidth

@@ -1,5 +1,5 @@
 // The steering bits of a network in order, and their settings by number: words from a number, and a number from words.
-use network_draft::store::Tally;
+use network_draft::store::Summary;
 use network_draft::store::mark_bit;
 use network_path::layout::Nodes;
 use network_path::layout::Words;
@@ -14,12 +14,12 @@ ghost use Rattle.network_words.specs.Words.{wordWidth, tritAt};
 ghost use Rattle.network_path.specs.Layout.{nodesOf, lookIn};
 ghost use Rattle.network_path.specs.Answers.{ConfigSized};
 ghost use Rattle.planner_theory.specs.Settings.{digitOf, settingOf};
-ghost use Rattle.planner_steering.specs.Steering.{bitsOf, steeringOf, markedIn, Steered, ProblemOf, Pairs, Behind, Within, Listed, Cleared, DigitSet, SetTo};
+ghost use Rattle.planner_steering.specs.Steering.{bitsOf, steeringOf, markedIn, Steered, ProblemOf, Pairs, Behind, Within, SteeringListed, Cleared, DigitSet, SetTo};
 
 // What the search asks of a network's record besides its nodes and words of steering bits: its counts and targets, and the list of
 // its steering bits, by segment and bit, with their count, the width of a setting.
 pub struct Problem {
-    pub tally: Tally,
+    pub summary: Summary,
     pub segments: [u16; 6],
     pub places: [u16; 6],
     pub width: usize,
@@ -71,15 +71,15 @@ fn list_steering<'a>(
 }
 
 // The counts and targets with the steering bits of the nodes.
-pub fn problem_of<'a>(nodes: &'a Nodes, steering: &'a Words, tally: Tally) -> Problem
-    requires { ⌜ Steered (now nodes) (now steering) (tally .count) ⌝ }
-    ensures { λ r. ⌜ ProblemOf (now (nodes .entry)) tally r ⌝ }
+pub fn problem_of<'a>(nodes: &'a Nodes, steering: &'a Words, summary: Summary) -> Problem
+    requires { ⌜ Steered (now nodes) (now steering) (summary .count) ⌝ }
+    ensures { λ r. ⌜ ProblemOf (now (nodes .entry)) summary r ⌝ }
 {
     let mut segments = [0u16; 6];
     let mut places = [0u16; 6];
-    let width = list_steering(nodes, steering, tally.count, &mut segments, &mut places);
+    let width = list_steering(nodes, steering, summary.count, &mut segments, &mut places);
     Problem {
-        tally,
+        summary,
         segments,
         places,
         width,
@@ -118,7 +118,7 @@ fn set_digit(bits: &mut Words, known: &mut Words, s: usize, b: usize, d: usize)
 
 // The words in which the steering bits have the values of setting x; other bits are free.
 pub fn set_words(bits: &mut Words, known: &mut Words, problem: Problem, x: usize)
-    requires { ⌜ Listed problem × ConfigSized (now bits) (now known) ⌝ }
+    requires { ⌜ SteeringListed problem × ConfigSized (now bits) (now known) ⌝ }
     ensures { λ _. ⌜ SetTo (steeringOf problem) x (now (bits .exit)) (now (known .exit)) ⌝ }
 {
     clear_words(bits, known, &problem.segments, problem.width);
@@ -146,7 +146,7 @@ fn digit_at(bits: Word, known: Word, b: usize) -> usize
 
 // The number of the setting that the words hold.
 pub fn setting_number<'a>(bits: &'a Words, known: &'a Words, problem: Problem) -> usize
-    requires { ⌜ Listed problem ⌝ }
+    requires { ⌜ SteeringListed problem ⌝ }
     ensures { λ r. ⌜ r ≡ settingOf (steeringOf problem) (lookIn (now (bits .entry)) (now (known .entry))) ⌝ }
 {
     let mut n: usize = 0;

@@ -38,7 +38,7 @@ use Rattle.planner_text.proofs.WholeText.{
 }
 
 -- what the writers of a line ask
-pub prepared-fills : {net : Network} {ns steering : List ℕ} {pb : Problem} {wants : List ℕ} → Prepared net ns steering pb → WantsOf (pb .tally) wants
+pub prepared-fills : {net : Network} {ns steering : List ℕ} {pb : Problem} {wants : List ℕ} → Prepared net ns steering pb → WantsOf (pb .summary) wants
     → Fills net ns steering wants
 prepared-fills {ns = ns} p w =
     record { steering-is = p .steering-is; wants-are = λ s b l inside. w .are s l ns b inside ∙ ap (λ (ts : List Target). wanted ts s b) (sym (p .targets-are)) }
@@ -162,7 +162,7 @@ module _ {ns steering : List ℕ} {pb : Problem} {start : ℕ} {picked : List �
 
         pub writing-more : {rows : List ℕ} → RowsRight ns steering pb rows → rowNumber rows x 0 ≡ 1 → {c : ℕ} → c ≡ getD picked i 0
             → {h next end : ℕ} {new : List ℕ} → h ≡ rowNumber rows x 1 → LandIn rows x c next → end ≡ place + (5 + pathLength (scanPath ns (take m way)))
-            → length new ≡ length buf → {wants : List ℕ} → WantsOf (pb .tally) wants → LinePut ns steering wants way m place h c buf new → Writing ns steering pb start picked n old (i + 1) next end new
+            → length new ≡ length buf → {wants : List ℕ} → WantsOf (pb .summary) wants → LinePut ns steering wants way m place h c buf new → Writing ns steering pb start picked n old (i + 1) next end new
         writing-more right known {c} is {h} {next} {end} {new} choices to behind same ws put net cs o =
             let q = o .counts in
             let f = s net cs o .passed in

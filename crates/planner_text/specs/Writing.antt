@@ -65,13 +65,13 @@ Writes ns steering p start picked n old new =
 -- ---- the text, or 13
 
 -- number and values of each case
-abbrev pub answerOf : Planned → Result ℕ
-answerOf (Written count) = ok count
-answerOf (Refused number place) = refused number place
+abbrev pub plannedAnswer : Planned → Result ℕ
+plannedAnswer (Written count) = ok count
+plannedAnswer (Refused number place) = refused number place
 
 -- the answer and the buffer, by the bytes of the text and the room for it
 pub record Given (text : Bytes) (old : List ℕ) (r : Planned) (new : List ℕ) : Type 0 where
-  pub result : answerOf r ≡ countOf (ifRoom (length old) text)
+  pub result : plannedAnswer r ≡ countOf (ifRoom (length old) text)
   pub left : new ≡ written (ifRoom (length old) text) old
 
 abbrev pub GivesText : List ℕ → List ℕ → Problem → ℕ → List ℕ → ℕ → List ℕ → Planned → List ℕ → Type 0

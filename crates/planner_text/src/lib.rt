@@ -87,7 +87,7 @@ fn write_text<'a>(
     ensures { λ _. ⌜ Writes (now (nodes .entry)) (now (steering .entry)) problem start (now (picked .entry)) n (now (plan .entry)) (now (plan .exit)) ⌝ }
 {
     let mut wants: Words = [0; 129];
-    list_wants(problem.tally, &mut wants);
+    list_wants(problem.summary, &mut wants);
     let mut way: Way = [0; 128];
     let mut at: usize = 0;
     let mut x = start;

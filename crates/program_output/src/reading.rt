@@ -1,5 +1,5 @@
 // The read program's line.
-use network_reader::reader::Verdict;
+use network_reader::reader::Acceptance;
 use network_reader::reader::read_network;
 
 // `ok` with the counts of nodes, segment bits, distinct steering bits and bits of the start's path.
@@ -18,12 +18,12 @@ pub fn show(text: &[u8]) {
     let verdict = reading.verdict;
     let network = reading.network;
     match verdict {
-        Verdict::Accepted => show_counts(
-            network.tally.count,
-            network.tally.total,
+        Acceptance::Accepted => show_counts(
+            network.summary.count,
+            network.summary.total,
             network.steering_count,
             network.start_length,
         ),
-        Verdict::Refused(number, place) => program_io::put_refusal(number, place),
+        Acceptance::Refused(number, place) => program_io::put_refusal(number, place),
     }
 }

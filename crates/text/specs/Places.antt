@@ -23,9 +23,9 @@ pub record FieldAt (line : Bytes) (starts : List ℕ) (k : ℕ) : Type 0 where
   pub content : take (getD starts (k + 1) 0 - 1 - getD starts k 0) (drop (getD starts k 0) line) ≡ getD (fields line) k []
 
 -- the places of the first seven fields, as far as the line has them
-abbrev pub Starts : Bytes → List ℕ → Type 0
-Starts line starts = (k : ℕ) → k < 7 → k < length (fields line) → FieldAt line starts k
+abbrev pub FieldStarts : Bytes → List ℕ → Type 0
+FieldStarts line starts = (k : ℕ) → k < 7 → k < length (fields line) → FieldAt line starts k
 
 pub record IsSplit (line : Bytes) (r : Fields) : Type 0 where
   pub counted : r .count ≡ length (fields line)
-  pub placed : Starts line (r .starts)
+  pub placed : FieldStarts line (r .starts)

@@ -4,7 +4,7 @@ ghost use mathlib.Core.List.{[]};
 ghost use Prim.Native.Nat.{_≤_, _<_};
 ghost use lib.ListN.{length, getD};
 ghost use Rattle.model.specs.Text.{fields, digitsFrom, same, wordOf};
-ghost use Rattle.text.specs.Places.{IsEnd, IsSplit, Starts};
+ghost use Rattle.text.specs.Places.{IsEnd, IsSplit, FieldStarts};
 ghost use Rattle.text.specs.Numbers.{classOf, numberOf, IsDecimal};
 ghost use Rattle.text.specs.Words.{wordFor};
 ghost use Rattle.text.specs.Bits.{isBit, allBits, bitsForm};
@@ -79,7 +79,7 @@ pub fn split(line: &[u8]) -> Fields
 
 // Field k of a line as a part of it, by the places that `split` found.
 pub fn field<'a, 'b>(line: &'a [u8], starts: &'b [usize; 8], k: usize) -> &'a [u8]
-    requires { ⌜ (k < 7) × (k < length (fields (now line))) × Starts (now line) (now starts) ⌝ }
+    requires { ⌜ (k < 7) × (k < length (fields (now line))) × FieldStarts (now line) (now starts) ⌝ }
     ensures { λ r. ⌜ now r ≡ getD (fields (now (line .entry))) k [] ⌝ }
 {
     let start = starts[k];

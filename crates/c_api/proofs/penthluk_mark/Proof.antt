@@ -1,4 +1,4 @@
--- `exports::penthluk_mark` meets its contract: the numbers by the verdict.
+-- `c_api::penthluk_mark` meets its contract: the numbers by the verdict.
 -- Assumes nothing.
 use Rattle.c_api.proofs.Marked.{passed-mark, refused-mark}
 use borrow.Author.Needs.{needs}

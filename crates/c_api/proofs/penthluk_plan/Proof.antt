@@ -1,6 +1,6 @@
--- `exports::penthluk_plan` meets its contract: the numbers by the answer, the buffers as the planner leaves them.
+-- `c_api::penthluk_plan` meets its contract: the numbers by the answer, the buffers as the planner leaves them.
 -- Assumes nothing.
-use Rattle.planner_text.specs.Writing.{answerOf}
+use Rattle.planner_text.specs.Writing.{plannedAnswer}
 use Rattle.c_api.proofs.Counted.{by-answer}
 use borrow.Author.Needs.{needs}
 use Rattle.c_api.proofs.penthluk_plan.Statement.{statement}
@@ -24,7 +24,7 @@ same-length-2 c = search needs
 returns : tie.Need-returns
 returns c =
     let w = c .before .before .before .before .before .before .before .before .make-plan in
-    (by-answer answerOf _ _ (w .ensures .0) _ (c .before .before .planned .given .1), w .ensures .1)
+    (by-answer plannedAnswer _ _ (w .ensures .0) _ (c .before .before .planned .given .1), w .ensures .1)
 
 same-length-3 : tie.Need-same-length-3
 same-length-3 c = search needs
@@ -35,7 +35,7 @@ same-length-4 c = search needs
 returns-2 : tie.Need-returns-2
 returns-2 c =
     let w = c .before .before .before .before .before .before .before .before .make-plan in
-    (by-answer answerOf _ _ (w .ensures .0) _ (c .before .before .planned2 .given .1), w .ensures .1)
+    (by-answer plannedAnswer _ _ (w .ensures .0) _ (c .before .before .planned2 .given .1), w .ensures .1)
 
 pub penthluk-plan-spec : {M : Type 1} → statement M
 penthluk-plan-spec =

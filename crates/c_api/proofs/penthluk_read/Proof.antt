@@ -1,4 +1,4 @@
--- `exports::penthluk_read` meets its contract.
+-- `c_api::penthluk_read` meets its contract.
 -- Assumes nothing.
 use Rattle.c_api.proofs.Answers.{accepted-numbers, refused-numbers}
 use borrow.Author.Needs.{needs}

@@ -1,4 +1,4 @@
--- `tap::column` meets its contract.
+-- `clock_writer::column` meets its contract.
 -- Assumes nothing.
 use borrow.Author.Tests.{eq-eqb, ne-eqb}
 use Rattle.clock_writer.proofs.column.Statement.{statement}

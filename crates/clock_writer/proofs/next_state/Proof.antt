@@ -1,4 +1,4 @@
--- `tap::next_state` meets its contract: the rule of the table at the state's row and the byte's column.
+-- `clock_writer::next_state` meets its contract: the rule of the table at the state's row and the byte's column.
 -- Assumes nothing.
 use mathlib.Core.Path.{ap, _∙_}
 use mathlib.Core.List.{[]}

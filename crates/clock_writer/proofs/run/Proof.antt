@@ -1,4 +1,4 @@
--- `tap::run` meets its contract. The loop's invariant: from s on, the clocks from i on lead to the last state.
+-- `clock_writer::run` meets its contract. The loop's invariant: from s on, the clocks from i on lead to the last state.
 -- Assumes nothing.
 use mathlib.Core.Path.{_≡_, refl}
 use mathlib.Core.List.{map}

@@ -1,4 +1,4 @@
--- `tap::write_clocks` meets its contract: each answer by the tests that led to it.
+-- `clock_writer::write_clocks` meets its contract: each answer by the tests that led to it.
 -- Assumes nothing.
 use Rattle.plan_text.proofs.Forms.{GoodText, form-good, form-refused}
 use Rattle.clock_writer.proofs.Answers.{bad-form, short-tms, short-tdi, all-written}

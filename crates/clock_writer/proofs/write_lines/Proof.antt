@@ -1,4 +1,4 @@
--- `tap::write_lines` meets its contract. The loop's invariant: the clocks of the lines before `at` are written.
+-- `clock_writer::write_lines` meets its contract. The loop's invariant: the clocks of the lines before `at` are written.
 -- Assumes nothing.
 use mathlib.Core.Path.{_≡_, refl}
 use Prim.Native.Nat.{_+_, _-_, _≤_}

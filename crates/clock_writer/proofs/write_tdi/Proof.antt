@@ -1,4 +1,4 @@
--- `tap::write_tdi` meets its contract: three writes, each behind the one before it.
+-- `clock_writer::write_tdi` meets its contract: three writes, each behind the one before it.
 -- Assumes nothing.
 use native.Mathlib.Omega.{arith}
 use borrow.Author.Needs.{needs}

@@ -1,4 +1,4 @@
--- `tap::write_tms` meets its contract: one write for no bits; else three writes, each behind the one before it.
+-- `clock_writer::write_tms` meets its contract: one write for no bits; else three writes, each behind the one before it.
 -- Assumes nothing.
 use mathlib.Core.Path.{_≡_, sym, ap, _∙_}
 use mathlib.Core.List.{List}

@@ -1,4 +1,4 @@
--- `operations::note_target` meets its contract.
+-- `marker_operations::note_target` meets its contract.
 -- Assumes nothing.
 use mathlib.Core.Path.{sym, ap, _∙_}
 use Rattle.network_path.specs.Answers.{placed}

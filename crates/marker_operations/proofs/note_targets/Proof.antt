@@ -1,4 +1,4 @@
--- `operations::note_targets` meets its contract. The invariant: the targets below i are noted.
+-- `marker_operations::note_targets` meets its contract. The invariant: the targets below i are noted.
 -- Assumes nothing.
 use Prim.Native.Nat.{_≤_, _-_}
 use native.Mathlib.Omega.{arith}

@@ -1,4 +1,4 @@
--- `operations::run_lines` meets its contract. The invariant is the law `Going`; the measure is what is left of the text.
+-- `marker_operations::run_lines` meets its contract. The invariant is the law `Going`; the measure is what is left of the text.
 -- Assumes nothing.
 use mathlib.Core.Path.{_≡_}
 use Prim.Native.Nat.{suc, _+_, _-_, _≤_}

@@ -1,4 +1,4 @@
--- `operations::run_operation` meets its contract.
+-- `marker_operations::run_operation` meets its contract.
 -- Assumes nothing.
 use mathlib.Core.Path.{sym, _∙_}
 use Rattle.network_path.proofs.StoredLaws.{stored-walkable}
@@ -16,7 +16,7 @@ returns c = λ net o l. c .if1 .taken (l ∙ sym (c .before .path-length .ensure
 note-targets-requires : tie.Need-note-targets-requires
 note-targets-requires c κs =
     let at-start = c .before .before .before .before .before .before .before .before .before in
-    (at-start .pre .0 .1 .found .holds, (at-start .pre .1 .0, at-start .pre .0 .1 .tame .targets-fit, at-start .pre .1 .1))
+    (at-start .pre .0 .1 .found .holds, (at-start .pre .1 .0, at-start .pre .0 .1 .in-limits .targets-fit, at-start .pre .1 .1))
 
 load-requires : tie.Need-load-requires
 load-requires c κs =

@@ -1,4 +1,4 @@
--- `operations::run_plan` meets its contract.
+-- `marker_operations::run_plan` meets its contract.
 -- Assumes nothing.
 use mathlib.Core.Path.{refl, sym, subst}
 use Prim.Native.Nat.{ℕ}

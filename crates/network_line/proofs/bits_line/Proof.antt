@@ -1,4 +1,4 @@
--- `network_text::bits_line` meets its contract, by the place of BITS.
+-- `network_line::bits_line` meets its contract, by the place of BITS.
 -- Assumes nothing.
 use mathlib.Core.Bool.{Bool, true, false, cond}
 use mathlib.Core.Path.{_≡_, refl, sym, ap, _∙_}

@@ -1,4 +1,4 @@
--- `network_text::decimals_of` meets its contract. The loop's invariant: k fields behind the first are read.
+-- `network_line::decimals_of` meets its contract. The loop's invariant: k fields behind the first are read.
 -- Assumes nothing.
 use Prim.Native.Nat.{_-_}
 use native.Mathlib.Omega.{arith}

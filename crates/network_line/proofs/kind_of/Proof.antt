@@ -1,4 +1,4 @@
--- `network_text::kind_of` meets its contract, comparison by comparison.
+-- `network_line::kind_of` meets its contract, comparison by comparison.
 -- Assumes nothing.
 use mathlib.Core.Path.{sym, _∙_}
 use borrow.Author.Needs.{needs}

@@ -1,4 +1,4 @@
--- `network_text::mux_line` meets its contract.
+-- `network_line::mux_line` meets its contract.
 -- Assumes nothing.
 use native.Mathlib.Omega.{arith}
 use borrow.Author.Tests.{not-true, not-false}

@@ -1,4 +1,4 @@
--- `network_text::number` meets its contract.
+-- `network_line::number` meets its contract.
 -- Assumes nothing.
 use mathlib.Core.Path.{subst}
 use borrow.Author.Needs.{needs}

@@ -1,4 +1,4 @@
--- `network_text::number_line` meets its contract.
+-- `network_line::number_line` meets its contract.
 -- Assumes nothing.
 use mathlib.Core.Bool.{Bool, true, false, cond}
 use mathlib.Core.List.{[]}

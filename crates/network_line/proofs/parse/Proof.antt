@@ -1,4 +1,4 @@
--- `network_text::parse` meets its contract, word by word.
+-- `network_line::parse` meets its contract, word by word.
 -- Assumes nothing.
 use mathlib.Core.Path.{_≡_, refl, sym, ap, _∙_}
 use native.Mathlib.Omega.{arith}

@@ -1,4 +1,4 @@
--- `network_text::seg_line` meets its contract, field by field.
+-- `network_line::seg_line` meets its contract, field by field.
 -- Assumes nothing.
 use mathlib.Core.List.{[]}
 use mathlib.Core.Path.{_≡_, sym, ap, _∙_}

@@ -1,4 +1,4 @@
--- `words::bit_at` meets its contract.
+-- `network_words::bit_at` meets its contract.
 -- Assumes nothing.
 use borrow.Author.Needs.{needs}
 use Rattle.network_words.proofs.WordLaws.{bit-mask}

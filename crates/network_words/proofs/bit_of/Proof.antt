@@ -1,4 +1,4 @@
--- `words::bit_of` meets its contract.
+-- `network_words::bit_of` meets its contract.
 -- Assumes nothing.
 use borrow.Author.Tests.{eq-eqb, ne-eqb}
 use Rattle.network_words.proofs.bit_of.Statement.{statement}

@@ -1,4 +1,4 @@
--- `words::loaded` meets its contract. The loop's invariant: the first i bits stand at the top of the word.
+-- `network_words::loaded` meets its contract. The loop's invariant: the first i bits stand at the top of the word.
 -- Assumes nothing.
 use mathlib.Core.List.{map}
 use mathlib.Core.Path.{_≡_, subst}

@@ -1,4 +1,4 @@
--- `words::mark_of` meets its contract.
+-- `network_words::mark_of` meets its contract.
 -- Assumes nothing.
 use borrow.Author.Tests.{eq-eqb, ne-eqb}
 use Rattle.network_words.proofs.mark_of.Statement.{statement}

@@ -1,4 +1,4 @@
--- `words::only_bit` meets its contract.
+-- `network_words::only_bit` meets its contract.
 -- Assumes nothing.
 use borrow.Author.Needs.{needs}
 use Rattle.network_words.specs.Words.{wordWidth}

@@ -1,4 +1,4 @@
--- `words::pair_at` meets its contract.
+-- `network_words::pair_at` meets its contract.
 -- Assumes nothing.
 use borrow.Author.Needs.{needs}
 use Rattle.network_words.proofs.WordLaws.{pair-mask}

@@ -1,4 +1,4 @@
--- `words::shifted_in` meets its contract.
+-- `network_words::shifted_in` meets its contract.
 -- Assumes nothing.
 use borrow.Author.Needs.{needs}
 use Rattle.network_words.specs.Words.{wordWidth}

@@ -1,4 +1,4 @@
--- `words::with_low` meets its contract.
+-- `network_words::with_low` meets its contract.
 -- Assumes nothing.
 use Prim.Native.Nat.{_-_}
 use native.Mathlib.Omega.{arith}

@@ -1,4 +1,4 @@
--- `words::words_of` meets its contract. The loop's invariant: both words have the first i bytes, and the rest gives the whole.
+-- `network_words::words_of` meets its contract. The loop's invariant: both words have the first i bytes, and the rest gives the whole.
 -- Assumes nothing.
 use Prim.Native.Nat.{_≤_, _-_}
 use native.Mathlib.Omega.{arith}

@@ -24,7 +24,7 @@ setting-number-requires c κs =
 power-of-2-requires : tie.Need-power-of-2-requires
 power-of-2-requires c κs =
     let w = c .before .before .before .before in
-    omega (arith, prepared _ _ (w .before .before .before .before .before .before .before .pre .0) _ (w .problem-of .ensures) .tame .targets-fit)
+    omega (arith, prepared _ _ (w .before .before .before .before .before .before .before .pre .0) _ (w .problem-of .ensures) .in-limits .targets-fit)
 
 wide-requires : tie.Need-wide-requires
 wide-requires c κs = search needs

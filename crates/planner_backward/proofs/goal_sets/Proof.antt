@@ -1,4 +1,4 @@
--- `keep::goal_sets` meets its contract.
+-- `planner_backward::goal_sets` meets its contract.
 -- Assumes nothing.
 use mathlib.Core.Path.{sym, _∙_}
 use borrow.Author.Needs.{needs}

@@ -1,4 +1,4 @@
--- `keep::keep_all` meets its contract. The invariant: layers i + 1 to d are kept.
+-- `planner_backward::keep_all` meets its contract. The invariant: layers i + 1 to d are kept.
 -- Assumes nothing.
 use Prim.Native.Nat.{_*_, _≤_, _-_}
 use mathlib.Core.Path.{_≡_, refl, _∙_}
@@ -6,7 +6,7 @@ use native.Mathlib.Omega.{arith}
 use lib.ListN.{length}
 use Rattle.planner_settings.specs.Route.{Each}
 use Rattle.planner_rows.specs.Rows.{RowsRight}
-use Rattle.planner_forward.specs.Spreading.{Met, Starts}
+use Rattle.planner_forward.specs.Spreading.{Met, SearchStarts}
 use Rattle.planner_backward.proofs.KeptLayers.{KeptDown, kept-none, kept-next, kept-all}
 use borrow.Author.Needs.{needs}
 use Rattle.planner_backward.proofs.keep_all.Statement.{statement}
@@ -15,7 +15,7 @@ use Rattle.planner_backward.proofs.keep_all.Tie as tie
 abbrev Inv-loop : tie.InvT-loop
 Inv-loop nodes steering pb rows₀ start full table₀ d i₀ rows table i =
     (i ≤ d) × (length table ≡ length table₀) × RowsRight nodes steering pb rows
-    × Each nodes steering pb (λ net. Starts net start full → Met net (start * 16) table₀ d → KeptDown net (start * 16) d i table₀ table)
+    × Each nodes steering pb (λ net. SearchStarts net start full → Met net (start * 16) table₀ d → KeptDown net (start * 16) d i table₀ table)
 
 abbrev μ-loop : tie.MeasureT-loop
 μ-loop nodes steering pb rows₀ start full table₀ d i₀ rows table i = i

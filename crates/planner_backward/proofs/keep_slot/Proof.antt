@@ -1,4 +1,4 @@
--- `keep::keep_slot` meets its contract. The invariant: slot i is filtered up to setting x.
+-- `planner_backward::keep_slot` meets its contract. The invariant: slot i is filtered up to setting x.
 -- Assumes nothing.
 use Prim.Native.Nat.{_+_, _≤_, _<_, _-_}
 use mathlib.Core.Path.{_≡_, refl}

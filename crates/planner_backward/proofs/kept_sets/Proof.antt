@@ -1,4 +1,4 @@
--- `keep::kept_sets` meets its contract.
+-- `planner_backward::kept_sets` meets its contract.
 -- Assumes nothing.
 use Rattle.planner_rows.proofs.RowLaws.{lands-of, landing-of}
 use Rattle.planner_backward.proofs.SetTests.{leads-last, leads-before, filtered-by}

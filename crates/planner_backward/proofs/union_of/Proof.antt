@@ -1,4 +1,4 @@
--- `keep::union_of` meets its contract. The invariant: all sets that the choices passed lead to are joined.
+-- `planner_backward::union_of` meets its contract. The invariant: all sets that the choices passed lead to are joined.
 -- Assumes nothing.
 use Prim.Native.Nat.{_≤_, _<_, _-_}
 use mathlib.Core.Path.{_≡_}

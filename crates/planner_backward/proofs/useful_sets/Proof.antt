@@ -1,4 +1,4 @@
--- `keep::useful_sets` meets its contract.
+-- `planner_backward::useful_sets` meets its contract.
 -- Assumes nothing.
 use mathlib.Core.Path.{refl}
 use Rattle.planner_backward.proofs.SetTests.{useful-are}

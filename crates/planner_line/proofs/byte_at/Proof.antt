@@ -1,4 +1,4 @@
--- `plan_lines::byte_at` meets its contract.
+-- `planner_line::byte_at` meets its contract.
 -- Assumes nothing.
 use mathlib.Core.Path.{ap, _∙_}
 use Prim.Native.Nat.{ℕ}

@@ -1,4 +1,4 @@
--- `plan_lines::byte_of` meets its contract.
+-- `planner_line::byte_of` meets its contract.
 -- Assumes nothing.
 use borrow.Author.Tests.{eq-eqb, ne-eqb}
 use Rattle.planner_line.proofs.byte_of.Statement.{statement}

@@ -1,4 +1,4 @@
--- `plan_lines::digit` meets its contract.
+-- `planner_line::digit` meets its contract.
 -- Assumes nothing.
 use borrow.Author.Needs.{needs}
 use Rattle.planner_line.proofs.Digits.{no-digit}

@@ -1,4 +1,4 @@
--- `plan_lines::left_behind` meets its contract.
+-- `planner_line::left_behind` meets its contract.
 -- Assumes nothing.
 use borrow.Author.Needs.{needs}
 use Rattle.network_words.specs.Words.{wordBit}

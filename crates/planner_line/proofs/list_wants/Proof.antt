@@ -1,4 +1,4 @@
--- `plan_lines::list_wants` meets its contract. The loop's invariant: the words of the targets from i on.
+-- `planner_line::list_wants` meets its contract. The loop's invariant: the words of the targets from i on.
 -- Assumes nothing.
 use Prim.Native.Nat.{_-_}
 use native.Mathlib.Omega.{arith}

@@ -1,4 +1,4 @@
--- `plan_lines::put_bits` meets its contract. The loop's invariant: the first b bits are written.
+-- `planner_line::put_bits` meets its contract. The loop's invariant: the first b bits are written.
 -- Assumes nothing.
 use mathlib.Core.Path.{_≡_, refl}
 use Prim.Native.Nat.{_+_, _≤_, _-_}

@@ -1,4 +1,4 @@
--- `plan_lines::put_line` meets its contract: the word, as many `0` as the path has bits, the bits over them, and the line's end.
+-- `planner_line::put_line` meets its contract: the word, as many `0` as the path has bits, the bits over them, and the line's end.
 -- Assumes nothing.
 use Prim.Native.Nat.{_+_, _≤_}
 use native.Mathlib.Omega.{arith}

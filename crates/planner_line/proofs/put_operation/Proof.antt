@@ -1,4 +1,4 @@
--- `plan_lines::put_operation` meets its contract. The loop's invariant: the first i segments are written.
+-- `planner_line::put_operation` meets its contract. The loop's invariant: the first i segments are written.
 -- Assumes nothing.
 use Prim.Native.Nat.{_≤_, _-_}
 use native.Mathlib.Omega.{arith}

@@ -1,4 +1,4 @@
--- `plan_lines::put_segment` meets its contract.
+-- `planner_line::put_segment` meets its contract.
 -- Assumes nothing.
 use mathlib.Core.Path.{refl}
 use borrow.Author.Needs.{needs}

@@ -1,4 +1,4 @@
--- `plan_lines::want_target` meets its contract.
+-- `planner_line::want_target` meets its contract.
 -- Assumes nothing.
 use borrow.Author.Needs.{needs}
 use Rattle.planner_line.proofs.WantedWords.{with-read, with-write}

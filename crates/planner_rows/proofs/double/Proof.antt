@@ -1,4 +1,4 @@
--- `rows::double` meets its contract. The invariant: the first h are as they were, and c of them stand again behind, with w added.
+-- `planner_rows::double` meets its contract. The invariant: the first h are as they were, and c of them stand again behind, with w added.
 -- Assumes nothing.
 use Prim.Native.Nat.{_-_}
 use native.Mathlib.Omega.{arith}

@@ -1,4 +1,4 @@
--- `rows::know_row` meets its contract. The row is known, or it is read.
+-- `planner_rows::know_row` meets its contract. The row is known, or it is read.
 -- Assumes nothing.
 use mathlib.Core.Path.{sym, _∙_}
 use borrow.Author.Needs.{needs}

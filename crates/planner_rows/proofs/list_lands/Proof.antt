@@ -1,4 +1,4 @@
--- `rows::list_lands` meets its contract. The invariant: h is 2 to the count of places passed, and the first h choices are listed.
+-- `planner_rows::list_lands` meets its contract. The invariant: h is 2 to the count of places passed, and the first h choices are listed.
 -- Assumes nothing.
 use mathlib.Core.Path.{refl}
 use Prim.Native.Nat.{_-_}

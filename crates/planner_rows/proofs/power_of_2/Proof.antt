@@ -1,4 +1,4 @@
--- `rows::power_of_2` meets its contract.
+-- `planner_rows::power_of_2` meets its contract.
 -- Assumes nothing.
 use mathlib.Core.Path.{_≡_}
 use native.Mathlib.Omega.{arith}

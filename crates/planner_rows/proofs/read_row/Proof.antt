@@ -1,4 +1,4 @@
--- `rows::read_row` meets its contract. The row becomes that of the walk in setting x.
+-- `planner_rows::read_row` meets its contract. The row becomes that of the walk in setting x.
 -- Assumes nothing.
 use mathlib.Core.Path.{refl}
 use Rattle.planner_rows.proofs.KnownRows.{stop-known, path-is, path-known}

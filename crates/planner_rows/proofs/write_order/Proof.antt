@@ -1,4 +1,4 @@
--- `rows::write_order` meets its contract. The invariant: i numbers are written, the last of order first.
+-- `planner_rows::write_order` meets its contract. The invariant: i numbers are written, the last of order first.
 -- Assumes nothing.
 use mathlib.Core.Path.{_≡_, ap}
 use Prim.Native.Nat.{ℕ, suc, _≤_, _-_}

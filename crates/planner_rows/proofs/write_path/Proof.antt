@@ -1,4 +1,4 @@
--- `rows::write_path` meets its contract. The order, the base, the targets and the length are those of the path.
+-- `planner_rows::write_path` meets its contract. The order, the base, the targets and the length are those of the path.
 -- Assumes nothing.
 use mathlib.Core.Path.{refl}
 use native.Mathlib.Omega.{arith}
@@ -21,7 +21,7 @@ order-of-requires c κs =
 mask-of-targets-requires : tie.Need-mask-of-targets-requires
 mask-of-targets-requires c κs =
     let q = c .before .before .before .before .before .before .before .before .pre .0 .1 in
-    (q .prepared .tame, planned-targets _ _ _ _ (q .prepared), marks-flags _ _ _ (c .before .before .before .before .before .before .mark-path .ensures))
+    (q .prepared .in-limits, planned-targets _ _ _ _ (q .prepared), marks-flags _ _ _ (c .before .before .before .before .before .before .mark-path .ensures))
 
 base-of-requires : tie.Need-base-of-requires
 base-of-requires c κs =

@@ -1,4 +1,4 @@
--- `rows::write_row` meets its contract. The first five numbers are stored one after the other, then the order.
+-- `planner_rows::write_row` meets its contract. The first five numbers are stored one after the other, then the order.
 -- Assumes nothing.
 use lib.ListN.{length-set}
 use Rattle.planner_rows.proofs.RowWriting.{row-written}

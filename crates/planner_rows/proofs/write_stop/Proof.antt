@@ -1,4 +1,4 @@
--- `rows::write_stop` meets its contract: the row has no choices and no target.
+-- `planner_rows::write_stop` meets its contract: the row has no choices and no target.
 -- Assumes nothing.
 use borrow.Author.Needs.{needs}
 use Rattle.planner_rows.proofs.write_stop.Statement.{statement}

@@ -1,4 +1,4 @@
--- `settings::base_of` meets its contract. The invariant: the number of the digits from j on.
+-- `planner_settings::base_of` meets its contract. The invariant: the number of the digits from j on.
 -- Assumes nothing.
 use Rattle.planner_settings.proofs.Basing.{Based, based-none, based-small, based-more, based-all}
 use native.Mathlib.Omega.{arith}

@@ -1,4 +1,4 @@
--- `settings::digit_off` meets its contract. The digit is 0 where the segment is marked.
+-- `planner_settings::digit_off` meets its contract. The digit is 0 where the segment is marked.
 -- Assumes nothing.
 use Rattle.planner_settings.proofs.Basing.{power-positive, digit-on, digit-off}
 use borrow.Author.Needs.{needs}

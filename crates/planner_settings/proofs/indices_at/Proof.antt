@@ -1,4 +1,4 @@
--- `settings::indices_at` meets its contract. A segment whose word of steering bits is 0 has none of them.
+-- `planner_settings::indices_at` meets its contract. A segment whose word of steering bits is 0 has none of them.
 -- Assumes nothing.
 use Rattle.planner_settings.proofs.Ordering.{indexing-clear}
 use borrow.Author.Needs.{needs}

@@ -1,4 +1,4 @@
--- `settings::indices_in` meets its contract. The invariant: the indices listed and those to come make the whole.
+-- `planner_settings::indices_in` meets its contract. The invariant: the indices listed and those to come make the whole.
 -- Assumes nothing.
 use Rattle.planner_settings.proofs.Ordering.{Indexing, indexing-none, indexing-room, indexing-hit, indexing-miss, indexing-all}
 use mathlib.Core.Logic.{⊎-elim}

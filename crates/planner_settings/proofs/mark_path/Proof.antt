@@ -1,4 +1,4 @@
--- `settings::mark_path` meets its contract. The invariant: the segments passed are marked.
+-- `planner_settings::mark_path` meets its contract. The invariant: the segments passed are marked.
 -- Assumes nothing.
 use Rattle.planner_settings.proofs.PathMarks.{MarkedTo, marked-none, marked-within, marked-more, marked-all}
 use native.Mathlib.Omega.{arith}

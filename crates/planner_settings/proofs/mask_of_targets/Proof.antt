@@ -1,4 +1,4 @@
--- `settings::mask_of_targets` meets its contract. The invariant: the number of the targets from i on.
+-- `planner_settings::mask_of_targets` meets its contract. The invariant: the number of the targets from i on.
 -- Assumes nothing.
 use Prim.Native.Nat.{_≤_, _-_}
 use native.Mathlib.Omega.{arith}

@@ -1,4 +1,4 @@
--- `settings::order_of` meets its contract. The invariant: the indices listed and those of the segments to come make the whole.
+-- `planner_settings::order_of` meets its contract. The invariant: the indices listed and those of the segments to come make the whole.
 -- Assumes nothing.
 use Rattle.planner_settings.proofs.Ordering.{Ordering, ordering-none, ordering-within, ordering-room, ordering-more, ordering-all}
 use native.Mathlib.Omega.{arith}

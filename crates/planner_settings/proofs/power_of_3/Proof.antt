@@ -1,4 +1,4 @@
--- `settings::power_of_3` meets its contract.
+-- `planner_settings::power_of_3` meets its contract.
 -- Assumes nothing.
 use mathlib.Core.Path.{_≡_}
 use native.Mathlib.Omega.{arith}

@@ -1,4 +1,4 @@
--- `settings::setting_count` meets its contract.
+-- `planner_settings::setting_count` meets its contract.
 -- Assumes nothing.
 use mathlib.Core.Path.{sym, ap}
 use Prim.Native.Nat.{ℕ, _^_}

@@ -1,4 +1,4 @@
--- `settings::walk_setting` meets its contract. The words hold the setting, and the walk depends on the steering bits alone.
+-- `planner_settings::walk_setting` meets its contract. The words hold the setting, and the walk depends on the steering bits alone.
 -- Assumes nothing.
 use mathlib.Core.Path.{refl}
 use Rattle.planner_settings.proofs.SettingWalk.{planned-listed, planned-walkable, setting-walked}

@@ -1,4 +1,4 @@
--- `steering::clear_words` meets its contract. The invariant: the words of the segments passed are 0.
+-- `planner_steering::clear_words` meets its contract. The invariant: the words of the segments passed are 0.
 -- Assumes nothing.
 use Rattle.planner_steering.proofs.Wording.{cleared-none, cleared-more, cleared-all}
 use Rattle.planner_steering.specs.Steering.{Cleared}

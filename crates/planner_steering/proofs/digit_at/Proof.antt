@@ -1,4 +1,4 @@
--- `steering::digit_at` meets its contract. A bit that is not known has the digit 2.
+-- `planner_steering::digit_at` meets its contract. A bit that is not known has the digit 2.
 -- Assumes nothing.
 use Rattle.planner_steering.proofs.Numbering.{digit-none, digit-some}
 use borrow.Author.Needs.{needs}

@@ -1,4 +1,4 @@
--- `steering::list_segment` meets its contract. The invariant: the bits listed and the bits to come make the whole.
+-- `planner_steering::list_segment` meets its contract. The invariant: the bits listed and the bits to come make the whole.
 -- Assumes nothing.
 use Rattle.planner_steering.proofs.Listing.{Marking, marking-none, marking-room, marking-set, marking-clear, marking-all}
 use mathlib.Core.Logic.{⊎-elim}

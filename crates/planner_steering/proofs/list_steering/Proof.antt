@@ -1,4 +1,4 @@
--- `steering::list_steering` meets its contract. The invariant: the bits listed and those of the segments to come make the whole.
+-- `planner_steering::list_steering` meets its contract. The invariant: the bits listed and those of the segments to come make the whole.
 -- Assumes nothing.
 use Rattle.planner_steering.proofs.Listing.{Gathering, gathering-none, gathering-room, gathering-short, gathering-more, gathering-all}
 use native.Mathlib.Omega.{arith}

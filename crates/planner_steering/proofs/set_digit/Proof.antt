@@ -1,4 +1,4 @@
--- `steering::set_digit` meets its contract. One case for each digit.
+-- `planner_steering::set_digit` meets its contract. One case for each digit.
 -- Assumes nothing.
 use mathlib.Core.Path.{_≡_}
 use Rattle.planner_steering.proofs.Wording.{digit-unknown, digit-zero, digit-one}

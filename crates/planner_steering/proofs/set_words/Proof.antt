@@ -1,4 +1,4 @@
--- `steering::set_words` meets its contract. The invariant: the bits passed have their digits, the others are clear.
+-- `planner_steering::set_words` meets its contract. The invariant: the bits passed have their digits, the others are clear.
 -- Assumes nothing.
 use Rattle.planner_steering.proofs.Wording.{Setting, setting-none, setting-more, setting-all}
 use native.Mathlib.Omega.{arith}

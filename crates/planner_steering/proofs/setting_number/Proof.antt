@@ -1,4 +1,4 @@
--- `steering::setting_number` meets its contract. The invariant: the number of the digits from j on.
+-- `planner_steering::setting_number` meets its contract. The invariant: the number of the digits from j on.
 -- Assumes nothing.
 use Rattle.planner_steering.proofs.Numbering.{Numbered, numbered-none, numbered-more, numbered-all}
 use Rattle.network_path.specs.Layout.{lookIn}

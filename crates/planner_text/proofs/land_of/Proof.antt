@@ -1,4 +1,4 @@
--- `plan_writer::land_of` meets its contract.
+-- `planner_text::land_of` meets its contract.
 -- Assumes nothing.
 use native.Mathlib.Omega.{arith}
 use Rattle.planner_text.proofs.Writings.{land-listed, land-in}

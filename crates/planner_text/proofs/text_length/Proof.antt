@@ -1,4 +1,4 @@
--- `plan_writer::text_length` meets its contract. The invariant: the table is right, and the law `Counting`: i choices are
+-- `planner_text::text_length` meets its contract. The invariant: the table is right, and the law `Counting`: i choices are
 -- passed, and their lines have sum bytes.
 -- Assumes nothing.
 use Prim.Native.Nat.{_+_, _-_, _≤_}

@@ -1,4 +1,4 @@
--- `plan_writer::write_plan` meets its contract.
+-- `planner_text::write_plan` meets its contract.
 -- Assumes nothing.
 use native.Mathlib.Omega.{arith}
 use Rattle.planner_text.proofs.Given.{given-short, given-written}

@@ -1,4 +1,4 @@
--- `plan_writer::write_text` meets its contract. The invariant: the table is right, and the law `Writing`: the lines of i choices
+-- `planner_text::write_text` meets its contract. The invariant: the table is right, and the law `Writing`: the lines of i choices
 -- stand in front of at.
 -- Assumes nothing.
 use mathlib.Core.Path.{_≡_}
@@ -21,7 +21,7 @@ abbrev μ-loop : tie.MeasureT-loop
 μ-loop nodes steering pb rows₀ start picked n plan₀ wants way₀ at₀ x₀ i₀ rows plan way at x i = n - i
 
 list-wants-requires : tie.Need-list-wants-requires Inv-loop μ-loop
-list-wants-requires c κs = let q = c .before .before .pre .0 .2 .counts .prepared in (q .tame, planned-targets _ _ _ _ q, no-marks)
+list-wants-requires c κs = let q = c .before .before .pre .0 .2 .counts .prepared in (q .in-limits, planned-targets _ _ _ _ q, no-marks)
 
 loop-holds : tie.Need-loop-holds Inv-loop μ-loop
 loop-holds c = (c .before .before .before .pre .1, length-replicate {A = ℕ} 128 0, writing-none)

@@ -1,4 +1,4 @@
--- `console::read_all` meets its contract. The loop's invariant: the bytes read lie in the buffer, which keeps its length.
+-- `program_io::read_all` meets its contract. The loop's invariant: the bytes read lie in the buffer, which keeps its length.
 -- Assumes nothing.
 use mathlib.Core.Path.{_≡_, sym}
 use mathlib.Core.List.{List}

@@ -8,7 +8,7 @@ use Rattle.marker.proofs.targets.is_held.Tie as tie
 
 -- the segment's number is an index
 small : (c : tie.After-wide) → c .wide .result ≤ 128
-small c = let p = c .before .before in omega (arith, c .wide .ensures, p .pre .0 .most (p .args .i) (p .pre .1), p .pre .0 .tame .nodes-fit)
+small c = let p = c .before .before in omega (arith, c .wide .ensures, p .pre .0 .most (p .args .i) (p .pre .1), p .pre .0 .in-limits .nodes-fit)
 
 mul-wide : tie.Need-mul-wide
 mul-wide c = search needs

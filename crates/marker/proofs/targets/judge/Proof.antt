@@ -82,7 +82,7 @@ push-requires : tie.Need-push-requires Inv-loop μ-loop
 push-requires c κs =
     let k = c .before .before .before .before .before .before in
     let a = k .before in
-    (a .loop .inv .blank, omega (arith, a .loop .inv .rows, k .loop-test .taken, a .before .before .pre .tame .targets-fit))
+    (a .loop .inv .blank, omega (arith, a .loop .inv .rows, k .loop-test .taken, a .before .before .pre .in-limits .targets-fit))
 
 add-i : tie.Need-add-i Inv-loop μ-loop
 add-i c = search needs

@@ -1,15 +1,15 @@
--- `draft::add::add_target` meets its contract: a target that fits is refused with 6, 7 or 8 in this order as the model refuses it,
--- and otherwise the arrays draw the draft with this target more.
+-- `network_draft::add::add_target` meets its contract: a target that fits is refused with 6, 7 or 8 in this order as the model refuses it,
+-- and otherwise the arrays represent the draft with this target more.
 -- Assumes nothing.
 use lib.ListN.{length}
 use Prim.Native.Nat.{_≤_, _<_}
-use Rattle.network_draft.specs.Draws.{targetFor}
+use Rattle.network_draft.specs.Represents.{targetFor}
 use Rattle.model.specs.NetworkText.{isTarget, withTarget}
 use Rattle.model.specs.Network.{Target, isSteering}
 use native.Mathlib.Omega.{arith}
 use mathlib.Core.List.{List}
 use mathlib.Core.Path.{refl, sym, ap, _∙_}
-use Rattle.network_draft.proofs.Drawing.{agrees-refused, agrees-ok, drawn-targets}
+use Rattle.network_draft.proofs.Representing.{agrees-refused, agrees-ok, represented-targets}
 use Rattle.network_draft.proofs.AddingTargets.{again-6, target-7, target-8, target-added, target-rest, segment-of, is-steering, not-steering, with-target}
 use borrow.Author.Needs.{needs}
 use Rattle.network_draft.proofs.add.add_target.Statement.{statement}
@@ -65,7 +65,7 @@ returns-3 c =
     let x = targetFor (a .write) (a .s) bs in
     let fresh = sym (ap (λ (ts : List Target). isTarget ts x) (w .targets-are)) ∙ sym (at-has-target .has-target .ensures ns bs) ∙ at-if1 .if1 .left in
     let free = ap (isSteering (d .nodes)) (segment-of (a .write) (a .s) bs) ∙ not-steering _ _ _ _ _ _ _ _ w out (a .s) (at-start .pre .1) (at-if2 .if2 .left) in
-    let full : 4 ≤ length (d .targets) = omega (arith, drawn-targets _ _ _ _ _ _ _ _ w, c .before .if3 .taken) in
+    let full : 4 ≤ length (d .targets) = omega (arith, represented-targets _ _ _ _ _ _ _ _ w, c .before .if3 .taken) in
     agrees-refused _ _ _ 8 (a .n) (target-8 d (a .n) x fresh free full) (c .refuse3 .ensures)
 
 narrow-requires : tie.Need-narrow-requires
@@ -107,7 +107,7 @@ returns-4 c =
     let x = targetFor (a .write) (a .s) bs in
     let fresh = sym (ap (λ (ts : List Target). isTarget ts x) (w .targets-are)) ∙ sym (at-has-target .has-target .ensures ns bs) ∙ at-if1 .if1 .left in
     let free = ap (isSteering (d .nodes)) (segment-of (a .write) (a .s) bs) ∙ not-steering _ _ _ _ _ _ _ _ w out (a .s) (at-start .pre .1) (at-if2 .if2 .left) in
-    let room : length (d .targets) < 4 = omega (arith, drawn-targets _ _ _ _ _ _ _ _ w, at-if3 .if3 .left) in
+    let room : length (d .targets) < 4 = omega (arith, represented-targets _ _ _ _ _ _ _ _ w, at-if3 .if3 .left) in
     let is = target-added d (a .n) x fresh free room in
     agrees-ok _ _ _ (withTarget d x) is refl
     (rw (c .flag-of .ensures, c .before .narrow .ensures)

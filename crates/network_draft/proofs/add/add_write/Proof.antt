@@ -1,4 +1,4 @@
--- `draft::add::add_write` meets its contract: a `write` line is refused with 4 or 6 in this order as the model refuses it,
+-- `network_draft::add::add_write` meets its contract: a `write` line is refused with 4 or 6 in this order as the model refuses it,
 -- and otherwise answers as `add_target` does.
 -- Assumes nothing.
 use Rattle.network_words.specs.Words.{wordBit}
@@ -12,7 +12,7 @@ use Rattle.model.specs.Text.{bit}
 use Rattle.network_draft.proofs.BadAddresses.{node-in}
 use Rattle.network_draft.proofs.AddingTargets.{target-4, target-6, target-rest, agrees-same}
 use Rattle.network_draft.proofs.AddingHolds.{unfit-none, unfit-length, fit, bits-in-length, bits-are}
-use Rattle.network_draft.proofs.Drawing.{agrees-refused, drawn-out, drawn-len}
+use Rattle.network_draft.proofs.Representing.{agrees-refused, represented-out, represented-len}
 use borrow.Author.Tests.{not-true, not-false}
 use native.Mathlib.Omega.{arith}
 use mathlib.Core.Path.{_≡_, sym, ap, _∙_}
@@ -40,7 +40,7 @@ returns : tie.Need-returns
 returns c =
     let a = c .before .before .before .before .args in
     λ bits known held d form w.
-    let out = drawn-out _ _ _ _ _ _ _ _ w ∙ not-true _ (c .before .if1 .taken) in
+    let out = represented-out _ _ _ _ _ _ _ _ w ∙ not-true _ (c .before .if1 .taken) in
     agrees-refused _ _ _ 4 (a .n) (target-4 d (a .n) (write (a .s) (bitsIn bit (a .f .now))) out) (c .refuse .ensures)
 
 len-of-requires : tie.Need-len-of-requires
@@ -56,8 +56,8 @@ returns-2 c =
     let a = at-if1 .before .before .before .args in
     let bs = bitsIn bit (a .f .now) in
     λ bits known held d form w.
-    let out = drawn-out _ _ _ _ _ _ _ _ w ∙ not-false _ (at-if1 .if1 .left) in
-    let len = drawn-len _ _ _ _ _ _ _ _ w (at-len-of .len-of .result) (a .s) (at-len-of .len-of .ensures .0) in
+    let out = represented-out _ _ _ _ _ _ _ _ w ∙ not-false _ (at-if1 .if1 .left) in
+    let len = represented-len _ _ _ _ _ _ _ _ w (at-len-of .len-of .result) (a .s) (at-len-of .len-of .ensures .0) in
     let unfit = unfit-none _ _ _ _ _ _ _ _ w (a .s) bs (len ∙ c .before .if2 .taken) in
     agrees-refused _ _ _ 6 (a .n) (target-6 d (a .n) (write (a .s) bs) out unfit) (c .refuse2 .ensures)
 
@@ -71,8 +71,8 @@ returns-3 c =
     let a = at-if1 .before .before .before .args in
     let bs = bitsIn bit (a .f .now) in
     λ bits known held d form w.
-    let out = drawn-out _ _ _ _ _ _ _ _ w ∙ not-false _ (at-if1 .if1 .left) in
-    let len = drawn-len _ _ _ _ _ _ _ _ w (at-len-of .len-of .result) (a .s) (at-len-of .len-of .ensures .0) in
+    let out = represented-out _ _ _ _ _ _ _ _ w ∙ not-false _ (at-if1 .if1 .left) in
+    let len = represented-len _ _ _ _ _ _ _ _ w (at-len-of .len-of .result) (a .s) (at-len-of .len-of .ensures .0) in
     let unfit = unfit-length _ _ _ _ _ _ _ _ w (a .s) bs (λ z. c .before .if3 .taken (sym (bits-in-length bit (a .f .now) form) ∙ z ∙ len)) in
     agrees-refused _ _ _ 6 (a .n) (target-6 d (a .n) (write (a .s) bs) out unfit) (c .refuse3 .ensures)
 
@@ -96,8 +96,8 @@ returns-4 c =
     let a = at-if1 .before .before .before .args in
     let bs = bitsIn bit (a .f .now) in
     λ bits known held d form w.
-    let out = drawn-out _ _ _ _ _ _ _ _ w ∙ not-false _ (at-if1 .if1 .left) in
-    let len = drawn-len _ _ _ _ _ _ _ _ w (at-len-of .len-of .result) (a .s) (at-len-of .len-of .ensures .0) in
+    let out = represented-out _ _ _ _ _ _ _ _ w ∙ not-false _ (at-if1 .if1 .left) in
+    let len = represented-len _ _ _ _ _ _ _ _ w (at-len-of .len-of .result) (a .s) (at-len-of .len-of .ensures .0) in
     let many = bits-in-length bit (a .f .now) form ∙ at-if3 .if3 .left ∙ sym len in
     let fits = fit _ _ _ _ _ _ _ _ w (a .s) bs (λ z. at-if2 .if2 .left (sym len ∙ z)) many in
     agrees-same _ _ _ _ (target-rest d (a .n) (write (a .s) bs) out fits)

@@ -1,6 +1,6 @@
--- `draft::add::has_target` meets its contract.
+-- `network_draft::add::has_target` meets its contract.
 -- Assumes nothing.
-use Rattle.network_draft.specs.Draws.{targetAt, targetsOf, targetFor}
+use Rattle.network_draft.specs.Represents.{targetAt, targetsOf, targetFor}
 use Rattle.model.specs.NetworkText.{isTarget}
 use Rattle.model.specs.Network.{tabulate}
 use native.Mathlib.Omega.{arith}

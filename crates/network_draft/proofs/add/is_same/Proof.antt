@@ -1,4 +1,4 @@
--- `draft::add::is_same` meets its contract.
+-- `network_draft::add::is_same` meets its contract.
 -- Assumes nothing.
 use mathlib.Core.Path.{sym, _∙_}
 use Rattle.network_draft.proofs.AddingTargets.{same-no, same-write, same-read}

@@ -1,4 +1,4 @@
--- `draft::add::len_of` meets its contract.
+-- `network_draft::add::len_of` meets its contract.
 -- Assumes nothing.
 use Rattle.network_draft.proofs.BadAddresses.{node-in, node-zero, node-beyond}
 use Rattle.model.specs.Network.{lenOf}

@@ -1,6 +1,6 @@
--- `draft::bad::first_bad` meets its contract.
+-- `network_draft::bad::first_bad` meets its contract.
 -- Assumes nothing.
-use Rattle.network_draft.specs.Draws.{Formed}
+use Rattle.network_draft.specs.Represents.{Formed}
 use Rattle.model.specs.NetworkText.{firstBad}
 use Rattle.network_path.specs.Layout.{nodesOf}
 use Prim.Native.Nat.{_≤_, _-_, _+_}

@@ -1,4 +1,4 @@
--- `draft::bad::is_bad` meets its contract: it tells a multiplexer whose address is not within a segment with shadow, test by test.
+-- `network_draft::bad::is_bad` meets its contract: it tells a multiplexer whose address is not within a segment with shadow, test by test.
 -- Assumes nothing.
 use Rattle.network_path.specs.Layout.{fieldAt}
 use Prim.Native.Nat.{ℕ, _≤_}

@@ -1,4 +1,4 @@
--- `draft::store::mark_bit` meets its contract.
+-- `network_draft::store::mark_bit` meets its contract.
 -- Assumes nothing.
 use borrow.Author.Needs.{needs}
 use Rattle.network_draft.proofs.Nodes.{no-segment, no-bit, bit-marked}

@@ -1,4 +1,4 @@
--- `draft::store::mark_steering` meets its contract.
+-- `network_draft::store::mark_steering` meets its contract.
 -- Assumes nothing.
 use native.Mathlib.Omega.{arith}
 use Rattle.network_draft.proofs.Nodes.{marked-none, marked-one, marked-two}

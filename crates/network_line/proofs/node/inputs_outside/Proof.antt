@@ -1,4 +1,4 @@
--- `network_text::node::inputs_outside` meets its contract.
+-- `network_line::node::inputs_outside` meets its contract.
 -- Assumes nothing.
 use borrow.Author.Needs.{needs}
 use Rattle.network_line.proofs.Bounds.{any-first, any-second, none-of-two, any-third, none-of-three, any-last}

@@ -1,4 +1,4 @@
--- `network_text::node::is_outside` meets its contract.
+-- `network_line::node::is_outside` meets its contract.
 -- Assumes nothing.
 use Rattle.network_line.proofs.Bounds.{outside-from, outside-short, outside-long}
 use borrow.Author.Needs.{needs}

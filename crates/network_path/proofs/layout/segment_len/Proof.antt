@@ -1,4 +1,4 @@
--- `path::layout::segment_len` meets its contract.
+-- `network_path::layout::segment_len` meets its contract.
 -- Assumes nothing.
 use mathlib.Core.Path.{sym, ap, _∙_}
 use borrow.Author.Needs.{needs}

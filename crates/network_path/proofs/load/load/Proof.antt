@@ -1,4 +1,4 @@
--- `path::load::load` meets its contract. The loop's invariant: the load of the segments to come gives what the whole load gives.
+-- `network_path::load::load` meets its contract. The loop's invariant: the load of the segments to come gives what the whole load gives.
 -- Assumes nothing.
 use Prim.Native.Nat.{_+_, _≤_, _-_}
 use native.Mathlib.Omega.{arith}

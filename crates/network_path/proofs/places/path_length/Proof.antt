@@ -1,4 +1,4 @@
--- `path::places::path_length` meets its contract. The loop's invariant: the sum and the segments to come make the path's length.
+-- `network_path::places::path_length` meets its contract. The loop's invariant: the sum and the segments to come make the path's length.
 -- Assumes nothing.
 use Prim.Native.Nat.{_≤_, _-_}
 use native.Mathlib.Omega.{arith}

@@ -1,4 +1,4 @@
--- `path::places::place_of` meets its contract. The loop's invariant: the bits passed and the place among the segments to come make the place.
+-- `network_path::places::place_of` meets its contract. The loop's invariant: the bits passed and the place among the segments to come make the place.
 -- Assumes nothing.
 use Prim.Native.Nat.{_≤_, _-_}
 use native.Mathlib.Omega.{arith}

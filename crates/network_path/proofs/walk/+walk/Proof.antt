@@ -1,4 +1,4 @@
--- `path::walk::walk` meets its contract. The measure is the node's number.
+-- `network_path::walk::walk` meets its contract. The measure is the node's number.
 -- Assumes nothing.
 use mathlib.Core.Path.{sym, _∙_}
 use Prim.Native.Nat.{ℕ, _+_, _<_}

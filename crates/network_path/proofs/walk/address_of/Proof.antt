@@ -1,4 +1,4 @@
--- `path::walk::address_of` meets its contract.
+-- `network_path::walk::address_of` meets its contract.
 -- Assumes nothing.
 use borrow.Author.Needs.{needs}
 use Rattle.network_path.proofs.StepLaws.{unknown-one, known-one, unknown-two, known-two}

@@ -1,4 +1,4 @@
--- `path::walk::answer_of` meets its contract.
+-- `network_path::walk::answer_of` meets its contract.
 -- Assumes nothing.
 use borrow.Author.Needs.{needs}
 use Rattle.network_path.proofs.WalkLaws.{path-number, beyond-number}

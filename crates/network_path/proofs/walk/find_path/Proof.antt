@@ -1,4 +1,4 @@
--- `path::walk::find_path` meets its contract.
+-- `network_path::walk::find_path` meets its contract.
 -- Assumes nothing.
 use borrow.Author.Needs.{needs}
 use Rattle.network_path.proofs.PathLaws.{found}

@@ -1,4 +1,4 @@
--- `path::walk::step_from` meets its contract.
+-- `network_path::walk::step_from` meets its contract.
 -- Assumes nothing.
 use mathlib.Core.Path.{ap}
 use Prim.Native.Nat.{_<_, _≤_}

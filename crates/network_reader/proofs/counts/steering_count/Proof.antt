@@ -1,10 +1,10 @@
--- `network::counts::steering_count` meets its contract. The invariant: sum and the bits of the segments from s on make the whole
+-- `network_reader::counts::steering_count` meets its contract. The invariant: sum and the bits of the segments from s on make the whole
 -- count, and sum is at most a word's width for each segment passed.
 -- Assumes nothing.
 use lib.ListN.{getD}
 use Rattle.network_reader.proofs.Counting.{sum-start, sum-step, sum-end}
 use Rattle.network_words.specs.Words.{wordWidth}
-use Rattle.network_draft.specs.Draws.{Short}
+use Rattle.network_draft.specs.Represents.{Short}
 use Rattle.network_reader.specs.Counts.{countIn, countFrom}
 use borrow.Author.Needs.{needs}
 use native.Mathlib.Omega.{arith}

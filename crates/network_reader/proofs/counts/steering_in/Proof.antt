@@ -1,4 +1,4 @@
--- `network::counts::steering_in` meets its contract.
+-- `network_reader::counts::steering_in` meets its contract.
 -- Assumes nothing.
 use Rattle.network_words.specs.Words.{wordWidth, wordBit}
 use Rattle.network_words.proofs.WordLaws.{value-small}

@@ -1,8 +1,8 @@
--- `network::reader::add_line` meets its contract: by the kind of line n, what is added agrees with what the model adds.
+-- `network_reader::reader::add_line` meets its contract: by the kind of line n, what is added agrees with what the model adds.
 -- Assumes nothing.
 use Rattle.network_reader.proofs.ReadingLines.{line-is, entry-good}
 use Rattle.network_draft.proofs.AddingTargets.{agrees-same}
-use Rattle.network_draft.proofs.Drawing.{agrees-refused, drawn-formed, drawn-words}
+use Rattle.network_draft.proofs.Representing.{agrees-refused, represented-formed, represented-words}
 use Rattle.model.specs.NetworkText.{addLine}
 use mathlib.Core.Path.{ap}
 use borrow.Author.Needs.{needs}
@@ -26,7 +26,7 @@ add-node-requires c κs =
     let at-entry = c .before .before .before in
     let at-parse = at-entry .before .before in
     let w = at-parse .before .before .pre .1 in
-    (entry-good _ _ (at-parse .parse .ensures) _ (at-entry .entry .given .1), w .tame, w .sized .nodes, w .sized .steering-words)
+    (entry-good _ _ (at-parse .parse .ensures) _ (at-entry .entry .given .1), w .in-limits, w .sized .nodes, w .sized .steering-words)
 
 enum-known-entry-2 : tie.Need-enum-known-entry-2
 enum-known-entry-2 c = search needs
@@ -34,7 +34,7 @@ enum-known-entry-2 c = search needs
 add-out-requires : tie.Need-add-out-requires
 add-out-requires c κs =
     let w = c .before .before .before .before .before .before .pre .1 in
-    (w .tame, drawn-formed _ _ _ _ _ _ _ _ w)
+    (w .in-limits, represented-formed _ _ _ _ _ _ _ _ w)
 
 enum-known-entry-3 : tie.Need-enum-known-entry-3
 enum-known-entry-3 c = search needs
@@ -51,7 +51,7 @@ part-add-hold-end c = search needs
 add-hold-requires : tie.Need-add-hold-requires
 add-hold-requires c κs =
     let w = c .before .before .before .before .before .before .before .before .before .before .pre .1 in
-    (w .tame, drawn-words _ _ _ _ _ _ _ _ w, w .sized .bit-words, w .sized .known-words, w .sized .held-flags)
+    (w .in-limits, represented-words _ _ _ _ _ _ _ _ w, w .sized .bit-words, w .sized .known-words, w .sized .held-flags)
 
 answer-requires-2 : tie.Need-answer-requires-2
 answer-requires-2 c κs = search needs
@@ -71,7 +71,7 @@ part-add-write-end c = search needs
 add-write-requires : tie.Need-add-write-requires
 add-write-requires c κs =
     let w = c .before .before .before .before .before .before .before .before .pre .1 in
-    (w .tame, drawn-words _ _ _ _ _ _ _ _ w)
+    (w .in-limits, represented-words _ _ _ _ _ _ _ _ w)
 
 enum-known-entry-5 : tie.Need-enum-known-entry-5
 enum-known-entry-5 c = search needs

@@ -1,4 +1,4 @@
--- `network::reader::finish` meets its contract: the lines' refusal, no `out` line, or what the start ends in.
+-- `network_reader::reader::finish` meets its contract: the lines' refusal, no `out` line, or what the start ends in.
 -- Assumes nothing.
 use borrow.Author.Tests.{not-true, not-false}
 use borrow.Author.Needs.{needs}
@@ -24,8 +24,8 @@ fill-start-requires : tie.Need-fill-start-requires
 fill-start-requires c κs =
     let at-told = c .before .before .before .before .before in
     let p = at-told .before .before .pre in
-    let w = lines-read _ _ _ _ _ _ (p .0) (p .1) (at-told .enum-told .given .1) .drawn in
-    (w .tame .nodes-fit, w .sized .bit-words, w .sized .known-words)
+    let w = lines-read _ _ _ _ _ _ (p .0) (p .1) (at-told .enum-told .given .1) .represented in
+    (w .in-limits .nodes-fit, w .sized .bit-words, w .sized .known-words)
 
 walk-start-requires : tie.Need-walk-start-requires
 walk-start-requires c κs =

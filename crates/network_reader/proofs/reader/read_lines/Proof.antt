@@ -1,4 +1,4 @@
--- `network::reader::read_lines` meets its contract. The invariant, before line n, from byte `at` on: the arrays draw the draft of
+-- `network_reader::reader::read_lines` meets its contract. The invariant, before line n, from byte `at` on: the arrays represent the draft of
 -- the lines before, and the model reads from it as from the start (the law `Standing`).
 -- Assumes nothing.
 use Rattle.network_reader.proofs.ReadingLines.{Standing, standing-start, lines-refused, standing-unended, standing-end, standing-refused, standing-next}
@@ -10,19 +10,19 @@ use Rattle.network_reader.proofs.reader.read_lines.Statement.{statement
 use Rattle.network_reader.proofs.reader.read_lines.Tie as tie
 
 abbrev Inv-loop : tie.InvT-loop
-Inv-loop text nodes₀ bits₀ known₀ steering₀ held₀ tally₀ at₀ n₀ nodes bits known steering held tally at n =
-    (length text ≤ 16384) × (at ≤ length text) × (n ≤ at + 1) × Standing text nodes bits known steering held tally at n
+Inv-loop text nodes₀ bits₀ known₀ steering₀ held₀ summary₀ at₀ n₀ nodes bits known steering held summary at n =
+    (length text ≤ 16384) × (at ≤ length text) × (n ≤ at + 1) × Standing text nodes bits known steering held summary at n
 
 abbrev μ-loop : tie.MeasureT-loop
-μ-loop text nodes₀ bits₀ known₀ steering₀ held₀ tally₀ at₀ n₀ nodes bits known steering held tally at n = length text - at
+μ-loop text nodes₀ bits₀ known₀ steering₀ held₀ summary₀ at₀ n₀ nodes bits known steering held summary at n = length text - at
 
-empty-tally-requires : tie.Need-empty-tally-requires Inv-loop μ-loop
-empty-tally-requires c κs = search needs
+empty-summary-requires : tie.Need-empty-summary-requires Inv-loop μ-loop
+empty-summary-requires c κs = search needs
 
 loop-holds : tie.Need-loop-holds Inv-loop μ-loop
 loop-holds c =
     let p = c .before .before .pre in
-    (p .0, omega arith, omega arith, standing-start _ _ _ _ _ _ _ (rw (c .empty-tally .ensures) (p .1)))
+    (p .0, omega arith, omega arith, standing-start _ _ _ _ _ _ _ (rw (c .empty-summary .ensures) (p .1)))
 
 -- the line ends within the text
 ended : (c : tie.Else1 Inv-loop μ-loop) → c .before .end-of .result < length (c .before .before .before .before .before .before .args .text .now)
@@ -53,7 +53,7 @@ part-add-line-end c = search needs
 add-line-requires : tie.Need-add-line-requires Inv-loop μ-loop
 add-line-requires c κs =
     let s = c .before .before .before .before .before .before .before .before .before .loop .inv .3 in
-    (s .draft, s .drawn)
+    (s .draft, s .represented)
 
 enum-known-refusal : tie.Need-enum-known-refusal Inv-loop μ-loop
 enum-known-refusal c = search needs
@@ -108,7 +108,7 @@ read-lines-spec =
     (tie.spec
     Inv-loop
     μ-loop
-    empty-tally-requires
+    empty-summary-requires
     loop-holds
     end-of-requires
     left-requires

@@ -1,10 +1,10 @@
--- `network::reader::read_network` meets its contract: a text is refused as the model refuses it, for its length or as its lines
+-- `network_reader::reader::read_network` meets its contract: a text is refused as the model refuses it, for its length or as its lines
 -- and its start end, and otherwise the record is of the model's network.
 -- Assumes nothing.
 use borrow.Author.Needs.{needs}
 use Rattle.model.specs.Text.{parts, lineEnd}
 use Rattle.model.specs.NetworkText.{noLines, readLines}
-use Rattle.network_reader.proofs.ReadingNetwork.{draws-none, reading-refused, too-long, ends-refused, ends-recorded}
+use Rattle.network_reader.proofs.ReadingNetwork.{represents-none, reading-refused, too-long, ends-refused, ends-recorded}
 use Rattle.network_reader.proofs.reader.read_network.Statement.{statement}
 use Rattle.network_reader.proofs.reader.read_network.Tie as tie
 
@@ -17,7 +17,7 @@ returns c =
     reading-refused text _ 3 0 (c .rejected .ensures) (too-long text (c .before .if1 .taken))
 
 read-lines-requires : tie.Need-read-lines-requires
-read-lines-requires c κs = (c .before .before .before .before .before .if1 .left, draws-none)
+read-lines-requires c κs = (c .before .before .before .before .before .if1 .left, represents-none)
 
 finish-requires : tie.Need-finish-requires
 finish-requires c κs =

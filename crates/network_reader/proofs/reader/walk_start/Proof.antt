@@ -1,4 +1,4 @@
--- `network::reader::walk_start` meets its contract: the start's path stops, or its length and the steering bits are counted.
+-- `network_reader::reader::walk_start` meets its contract: the start's path stops, or its length and the steering bits are counted.
 -- Assumes nothing.
 use Prim.Native.Nat.{ℕ}
 use mathlib.Core.Path.{subst}

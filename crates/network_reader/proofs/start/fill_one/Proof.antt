@@ -1,4 +1,4 @@
--- `network::start::fill_one` meets its contract.
+-- `network_reader::start::fill_one` meets its contract.
 -- Assumes nothing.
 use Rattle.network_reader.proofs.Starting.{one-held, one-free}
 use borrow.Author.Needs.{needs}

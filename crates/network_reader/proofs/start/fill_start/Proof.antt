@@ -1,4 +1,4 @@
--- `network::start::fill_start` meets its contract.
+-- `network_reader::start::fill_start` meets its contract.
 -- Assumes nothing.
 use borrow.Author.Needs.{needs}
 use lib.ListN.{length}

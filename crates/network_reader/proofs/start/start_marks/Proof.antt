@@ -1,4 +1,4 @@
--- `network::start::start_marks` meets its contract.
+-- `network_reader::start::start_marks` meets its contract.
 -- Assumes nothing.
 use borrow.Author.Tests.{eq-eqb, ne-eqb}
 use Rattle.network_reader.proofs.start.start_marks.Statement.{statement}

@@ -1,4 +1,4 @@
--- `goals::has_goal` meets its contract. The loop's invariant: no setting below x is a goal with one of its sets.
+-- `planner_forward::goals::has_goal` meets its contract. The loop's invariant: no setting below x is a goal with one of its sets.
 -- Assumes nothing.
 use mathlib.Core.Path.{_≡_, sym, _∙_}
 use mathlib.Core.Bool.{false}

@@ -1,4 +1,4 @@
--- `goals::is_goal` meets its contract: the count of choices stands in the setting's row.
+-- `planner_forward::goals::is_goal` meets its contract: the count of choices stands in the setting's row.
 -- Assumes nothing.
 use mathlib.Core.Path.{sym, _∙_}
 use borrow.Author.Tests.{not-true, not-false}

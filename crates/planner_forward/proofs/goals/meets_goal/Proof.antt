@@ -1,4 +1,4 @@
--- `goals::meets_goal` meets its contract.
+-- `planner_forward::goals::meets_goal` meets its contract.
 -- Assumes nothing.
 use mathlib.Core.Path.{sym, _∙_}
 use borrow.Author.Needs.{needs}

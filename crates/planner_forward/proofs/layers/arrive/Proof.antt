@@ -1,4 +1,4 @@
--- `layers::arrive` meets its contract: the laws of SpreadLaws at each answer.
+-- `planner_forward::layers::arrive` meets its contract: the laws of SpreadLaws at each answer.
 -- Assumes nothing.
 use Rattle.planner_forward.proofs.SpreadLaws.{arrive-met, arrive-new}
 use borrow.Author.Needs.{needs}

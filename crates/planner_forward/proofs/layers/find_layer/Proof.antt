@@ -1,4 +1,4 @@
--- `layers::find_layer` meets its contract. The loop's invariant: the search has come to layer i, no layer so far has a goal, and
+-- `planner_forward::layers::find_layer` meets its contract. The loop's invariant: the search has come to layer i, no layer so far has a goal, and
 -- nothing behind the slots has changed.
 -- Assumes nothing.
 use mathlib.Core.Path.{_≡_, refl, _∙_}
@@ -8,7 +8,7 @@ use native.Mathlib.Omega.{arith}
 use lib.ListN.{length, getD, set, replicate, length-set, length-replicate}
 use Rattle.planner_rows.specs.Rows.{RowsRight}
 use Rattle.planner_settings.specs.Route.{Each}
-use Rattle.planner_forward.specs.Spreading.{Starts}
+use Rattle.planner_forward.specs.Spreading.{SearchStarts}
 use Rattle.planner_forward.proofs.Layering.{Forward, seen-start, forward-start, slot-sets, forward-next, met-goal, met-empty, met-nothing}
 use Rattle.planner_forward.proofs.layers.find_layer.Statement.{statement}
 use Rattle.planner_forward.proofs.layers.find_layer.Tie as tie
@@ -17,7 +17,7 @@ abbrev Inv-loop : tie.InvT-loop
 Inv-loop nodes steering pb rows₀ start full table₀ seen₀ i₀ rows table seen i =
     (i ≤ 16) × RowsRight nodes steering pb rows
     × ((length table ≡ length table₀) × ((n : ℕ) → 11664 ≤ n → getD table n 0 ≡ getD table₀ n 0) × (length seen ≡ 729))
-    × Each nodes steering pb (λ net. Starts net start full → Forward net (start * 16) i table seen)
+    × Each nodes steering pb (λ net. SearchStarts net start full → Forward net (start * 16) i table seen)
 
 abbrev μ-loop : tie.MeasureT-loop
 μ-loop nodes steering pb rows₀ start full table₀ seen₀ i₀ rows table seen i = 16 - i

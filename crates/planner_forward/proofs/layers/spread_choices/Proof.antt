@@ -1,4 +1,4 @@
--- `layers::spread_choices` meets its contract. The loop's invariant: the sets got have gone where the first c choices lead.
+-- `planner_forward::layers::spread_choices` meets its contract. The loop's invariant: the sets got have gone where the first c choices lead.
 -- Assumes nothing.
 use mathlib.Core.Path.{subst}
 use Prim.Native.Nat.{ℕ, _-_, _≤_}

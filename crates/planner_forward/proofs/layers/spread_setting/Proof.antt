@@ -1,4 +1,4 @@
--- `layers::spread_setting` meets its contract: where the choices lead, with the sets joined, is what leaves the setting.
+-- `planner_forward::layers::spread_setting` meets its contract: where the choices lead, with the sets joined, is what leaves the setting.
 -- Assumes nothing.
 use mathlib.Core.Path.{refl}
 use Rattle.planner_rows.proofs.RowLaws.{gain-read, gain-read-small, listed-small}

@@ -1,4 +1,4 @@
--- `plan_search::plan::clear` meets its contract. The invariant: the first i entries are 0, and the others are as they were.
+-- `planner_search::plan::clear` meets its contract. The invariant: the first i entries are 0, and the others are as they were.
 -- Assumes nothing.
 use Prim.Native.Nat.{_≤_, _-_}
 use mathlib.Core.Path.{_≡_, refl}

@@ -1,4 +1,4 @@
--- `plan_search::plan::find_plan` meets its contract.
+-- `planner_search::plan::find_plan` meets its contract.
 -- Assumes nothing.
 use Prim.Native.Nat.{ℕ, _≤_}
 use mathlib.Core.Path.{_≡_, ap, _∙_}

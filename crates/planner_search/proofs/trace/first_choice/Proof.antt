@@ -1,4 +1,4 @@
--- `plan_search::trace::first_choice` meets its contract. The invariant: no choice passed leads to a state of the slot.
+-- `planner_search::trace::first_choice` meets its contract. The invariant: no choice passed leads to a state of the slot.
 -- Assumes nothing.
 use Prim.Native.Nat.{ℕ, _+_, _*_, _≤_, _<_, _-_}
 use mathlib.Core.Path.{_≡_, sym, _∙_}

@@ -1,4 +1,4 @@
--- `plan_search::trace::trace` meets its contract. The invariant: the way has come to setting x with the targets m, and i choices of the
+-- `planner_search::trace::trace` meets its contract. The invariant: the way has come to setting x with the targets m, and i choices of the
 -- plan are written.
 -- Assumes nothing.
 use Prim.Native.Nat.{_*_, _%_, _≤_, _<_, _-_}

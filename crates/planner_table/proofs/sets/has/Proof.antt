@@ -1,4 +1,4 @@
--- `sets::has` meets its contract: the bit by a shift and a mask.
+-- `planner_table::sets::has` meets its contract: the bit by a shift and a mask.
 -- Assumes nothing.
 use mathlib.Core.Path.{ap, _∙_}
 use Rattle.network_words.specs.Words.{wordBit}

@@ -1,4 +1,4 @@
--- `sets::joined` meets its contract. The loop's invariant: r has each of the first m sets of targets that is in sets, together
+-- `planner_table::sets::joined` meets its contract. The loop's invariant: r has each of the first m sets of targets that is in sets, together
 -- with g, and nothing else.
 -- Assumes nothing.
 use Prim.Native.Nat.{_-_, _≤_}

@@ -1,4 +1,4 @@
--- `sets::joined_at` meets its contract: the laws of SetLaws at each answer.
+-- `planner_table::sets::joined_at` meets its contract: the laws of SetLaws at each answer.
 -- Assumes nothing.
 use mathlib.Core.Path.{sym, _∙_}
 use Rattle.planner_table.proofs.SetLaws.{together-small, joined-there, joined-not}

@@ -1,4 +1,4 @@
--- `sets::kept` meets its contract. The loop's invariant: of the first m sets of targets r has those that stay, and nothing else.
+-- `planner_table::sets::kept` meets its contract. The loop's invariant: of the first m sets of targets r has those that stay, and nothing else.
 -- Assumes nothing.
 use Prim.Native.Nat.{_-_, _≤_}
 use native.Mathlib.Omega.{arith}

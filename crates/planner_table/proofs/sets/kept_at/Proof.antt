@@ -1,4 +1,4 @@
--- `sets::kept_at` meets its contract: the laws of SetLaws at each answer.
+-- `planner_table::sets::kept_at` meets its contract: the laws of SetLaws at each answer.
 -- Assumes nothing.
 use mathlib.Core.Path.{sym, _∙_}
 use borrow.Author.Tests.{not-true, not-false}

@@ -1,4 +1,4 @@
--- `sets::only` meets its contract: 1 shifted to the bit.
+-- `planner_table::sets::only` meets its contract: 1 shifted to the bit.
 -- Assumes nothing.
 use mathlib.Core.Path.{ap, _∙_}
 use Prim.Native.Nat.{ℕ, _^_}

@@ -1,4 +1,4 @@
--- `slots::next_setting` meets its contract. The invariant: the settings up to x are skipped.
+-- `planner_table::slots::next_setting` meets its contract. The invariant: the settings up to x are skipped.
 -- Assumes nothing.
 use Prim.Native.Nat.{_-_}
 use native.Mathlib.Omega.{arith}

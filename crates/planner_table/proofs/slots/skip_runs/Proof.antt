@@ -1,4 +1,4 @@
--- `slots::skip_runs` meets its contract. The invariant: the settings up to x are skipped.
+-- `planner_table::slots::skip_runs` meets its contract. The invariant: the settings up to x are skipped.
 -- Assumes nothing.
 use Prim.Native.Nat.{_-_}
 use native.Mathlib.Omega.{arith}

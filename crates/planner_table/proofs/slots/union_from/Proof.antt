@@ -1,4 +1,4 @@
--- `slots::union_from` meets its contract. The invariant: where all is 0, the first k entries are.
+-- `planner_table::slots::union_from` meets its contract. The invariant: where all is 0, the first k entries are.
 -- Assumes nothing.
 use mathlib.Core.Path.{_≡_}
 use Prim.Native.Nat.{_-_, _≤_}

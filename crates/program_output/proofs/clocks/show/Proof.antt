@@ -1,9 +1,9 @@
--- `printed::clocks::show` is safe: a count of clocks says that the plan text has good form and both buffers have room for it.
+-- `program_output::clocks::show` is safe: a count of clocks says that the plan text has good form and both buffers have room for it.
 -- Assumes nothing.
 use mathlib.Core.Path.{sym, ap, _∙_}
 use native.Mathlib.Omega.{arith}
 use borrow.Author.Needs.{needs}
-use Rattle.clock_writer.specs.Clocks.{answerOf}
+use Rattle.clock_writer.specs.Clocks.{writtenAnswer}
 use Rattle.clock_writer.proofs.Answers.{count-says}
 use Rattle.program_output.proofs.clocks.show.Statement.{statement}
 use Rattle.program_output.proofs.clocks.show.Tie as tie
@@ -29,7 +29,7 @@ slice-aggregate-show-operations-2 c = search needs
 show-operations-requires : tie.Need-show-operations-requires
 show-operations-requires c κs =
     let w = c .before .before .before .before .before .before .write-clocks in
-    let o = count-says _ _ _ _ (sym (w .ensures .0) ∙ ap answerOf (c .before .before .enum-told .given .1)) in
+    let o = count-says _ _ _ _ (sym (w .ensures .0) ∙ ap writtenAnswer (c .before .before .enum-told .given .1)) in
     ((o .plan, o .reads), (omega arith, omega arith))
 
 enum-known-written : tie.Need-enum-known-written

@@ -1,4 +1,4 @@
--- `printed::clocks::show_operations` meets its contract. The loop's invariant: whole lines stand at `at`.
+-- `program_output::clocks::show_operations` meets its contract. The loop's invariant: whole lines stand at `at`.
 -- Assumes nothing.
 use mathlib.Core.Path.{refl}
 use Prim.Native.Nat.{_-_}

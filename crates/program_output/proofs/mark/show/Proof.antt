@@ -1,4 +1,4 @@
--- `printed::mark::show` is safe: a mark has at most four rows.
+-- `program_output::mark::show` is safe: a mark has at most four rows.
 -- Assumes nothing.
 use mathlib.Core.Path.{ap}
 use Prim.Native.Nat.{_≤_}

@@ -1,4 +1,4 @@
--- `printed::mark::show_gots` is safe and ends: there are no more rows than entries.
+-- `program_output::mark::show_gots` is safe and ends: there are no more rows than entries.
 -- Assumes nothing.
 use Prim.Native.Nat.{_-_}
 use borrow.Author.Needs.{needs}

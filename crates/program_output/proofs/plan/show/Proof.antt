@@ -1,10 +1,10 @@
--- `printed::plan::show` is safe: the bytes written lie in the buffer.
+-- `program_output::plan::show` is safe: the bytes written lie in the buffer.
 -- Assumes nothing.
 use mathlib.Core.Path.{sym, ap, _∙_}
 use native.Mathlib.Omega.{arith}
 use borrow.Author.Needs.{needs}
 use lib.Seq.{length-take-le}
-use Rattle.planner_text.specs.Writing.{answerOf}
+use Rattle.planner_text.specs.Writing.{plannedAnswer}
 use Rattle.program_output.proofs.PlanRoom.{count-fits}
 use Rattle.program_output.proofs.plan.show.Statement.{statement}
 use Rattle.program_output.proofs.plan.show.Tie as tie
@@ -24,12 +24,12 @@ enum-known-planned c = search needs
 array-share-prefix-plan : tie.Need-array-share-prefix-plan
 array-share-prefix-plan c =
     let m = c .before .before .before .before .before .make-plan in
-    omega (arith, count-fits _ _ _ _ (sym (m .ensures .0) ∙ ap answerOf (c .before .planned .given .1)))
+    omega (arith, count-fits _ _ _ _ (sym (m .ensures .0) ∙ ap plannedAnswer (c .before .planned .given .1)))
 
 slice-aggregate-put-lines : tie.Need-slice-aggregate-put-lines
 slice-aggregate-put-lines c =
     let m = c .before .before .before .before .before .before .make-plan in
-    sym (length-take-le _ _ (omega (arith, count-fits _ _ _ _ (sym (m .ensures .0) ∙ ap answerOf (c .before .before .planned .given .1)))))
+    sym (length-take-le _ _ (omega (arith, count-fits _ _ _ _ (sym (m .ensures .0) ∙ ap plannedAnswer (c .before .before .planned .given .1)))))
 
 put-lines-requires : tie.Need-put-lines-requires
 put-lines-requires c κs = search needs

@@ -1,12 +1,12 @@
--- `draft::store::row_of` meets its contract: the eight numbers of a node, for each of the two kinds.
+-- `network_draft::store::numbers_of` meets its contract: the eight numbers of a node, for each of the two kinds.
 -- Assumes nothing.
 use Rattle.network_line.specs.declared.NodeData.the-variants.{Multiplexer}
 use Rattle.network_line.specs.Line.{SmallNode}
 use native.Mathlib.Omega.{arith}
-use Rattle.network_draft.proofs.Nodes.{segment-row, mux-row}
+use Rattle.network_draft.proofs.Nodes.{segment-numbers, mux-numbers}
 use borrow.Author.Needs.{needs}
-use Rattle.network_draft.proofs.store.row_of.Statement.{statement}
-use Rattle.network_draft.proofs.store.row_of.Tie as tie
+use Rattle.network_draft.proofs.store.numbers_of.Statement.{statement}
+use Rattle.network_draft.proofs.store.numbers_of.Tie as tie
 
 -- the numbers of a multiplexer are small
 small : (c : tie.After-x2) → SmallNode (Multiplexer (c .x2 .given .0 .0) (c .x2 .given .0 .1 .0) (c .x2 .given .0 .1 .1 .0) (c .x2 .given .0 .1 .1 .1 .0)
@@ -53,7 +53,7 @@ returns : tie.Need-returns
 returns c =
     let at-flag-of = c .before .before in
     let x = at-flag-of .before .before .x .given in
-    rw (x .1, at-flag-of .flag-of .ensures, c .before .narrow .ensures, c .narrow2 .ensures) (segment-row (x .0 .0) (x .0 .1 .0) (x .0 .1 .1 .0))
+    rw (x .1, at-flag-of .flag-of .ensures, c .before .narrow .ensures, c .narrow2 .ensures) (segment-numbers (x .0 .0) (x .0 .1 .0) (x .0 .1 .1 .0))
 
 returns-2 : tie.Need-returns-2
 returns-2 c =
@@ -75,10 +75,10 @@ returns-2 c =
       c .before .narrow8 .ensures,
       c .narrow9 .ensures,
     )
-    (mux-row (x .1 .1 .0) (x .0) (x .1 .0) (x .1 .1 .1 .0) (x .1 .1 .1 .1 .0) (x .1 .1 .1 .1 .1 .0) (x .1 .1 .1 .1 .1 .1 .0) (p .2) (p .3))
+    (mux-numbers (x .1 .1 .0) (x .0) (x .1 .0) (x .1 .1 .1 .0) (x .1 .1 .1 .1 .0) (x .1 .1 .1 .1 .1 .0) (x .1 .1 .1 .1 .1 .1 .0) (p .2) (p .3))
 
-pub row-of-spec : {M : Type 1} → statement M
-row-of-spec =
+pub numbers-of-spec : {M : Type 1} → statement M
+numbers-of-spec =
     tie.close
     (tie.spec
     enum-known-x

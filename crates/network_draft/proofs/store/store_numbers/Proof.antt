@@ -1,16 +1,16 @@
--- `draft::store::store_row` meets its contract.
+-- `network_draft::store::store_numbers` meets its contract.
 -- Assumes nothing.
 use borrow.Author.Needs.{needs}
 use Prim.Native.Nat.{_≤_, _-_}
 use Rattle.network_draft.proofs.Nodes.{Storing, storing-none, storing-more, storing-all}
-use Rattle.network_draft.proofs.store.store_row.Statement.{statement}
-use Rattle.network_draft.proofs.store.store_row.Tie as tie
+use Rattle.network_draft.proofs.store.store_numbers.Statement.{statement}
+use Rattle.network_draft.proofs.store.store_numbers.Tie as tie
 
 abbrev Inv-loop : tie.InvT-loop
-Inv-loop nodes₀ k row base i₀ nodes i = (i ≤ 8) × (k ≤ 128) × Storing nodes₀ k row i nodes
+Inv-loop nodes₀ k numbers base i₀ nodes i = (i ≤ 8) × (k ≤ 128) × Storing nodes₀ k numbers i nodes
 
 abbrev μ-loop : tie.MeasureT-loop
-μ-loop nodes₀ k row base i₀ nodes i = 8 - i
+μ-loop nodes₀ k numbers base i₀ nodes i = 8 - i
 
 mul-base : tie.Need-mul-base Inv-loop μ-loop
 mul-base c = search needs
@@ -45,8 +45,8 @@ loop-again c = (search needs, search needs, storing-more _ _ _ _ _ (search needs
 returns : tie.Need-returns Inv-loop μ-loop
 returns c = storing-all _ _ _ _ _ (search needs) (search needs) (c .before .loop .inv .2)
 
-pub store-row-spec : {M : Type 1} → statement M
-store-row-spec =
+pub store-numbers-spec : {M : Type 1} → statement M
+store-numbers-spec =
     tie.close
     (tie.spec
     Inv-loop

@@ -1,4 +1,4 @@
--- The arrays and counts draw a draft: what the reader has at each line, in the model's terms.
+-- The arrays and the summary represent a draft: what the reader has at each line, in the model's terms.
 -- Assumes nothing.
 use mathlib.Core.Path.{_≡_}
 use mathlib.Core.Bool.{Bool, true, false, cond, _&&_, Bool·beq}
@@ -16,7 +16,7 @@ use Rattle.model.proofs.Reading.{Sound}
 use Rattle.network_words.specs.Words.{wordWidth, wordBit, tritsOf}
 use Rattle.network_path.specs.Layout.{nodeAt, nodesOf}
 use Rattle.network_draft.specs.Store.{Small}
-use Rattle.network_draft.specs.declared.store.Tally.{Tally}
+use Rattle.network_draft.specs.declared.store.Summary.{Summary}
 use Rattle.network_draft.specs.declared.add.Refusal.{Refusal}
 use Rattle.network_draft.specs.declared.add.Refusal.the-variants.{Nothing, Refused}
 
@@ -25,13 +25,13 @@ feedsOf false k = none
 feedsOf true k = some k
 
 -- target i, counted from 0
-abbrev pub targetAt : List ℕ → Tally → ℕ → Target
+abbrev pub targetAt : List ℕ → Summary → ℕ → Target
 targetAt ns t i =
     cond (eqb (getD (t .«target_write») i 0) 1)
     (write (getD (t .«target_segment») i 0) (tabulate (wordBit (getD (t .«target_bits») i 0)) 0 (lenOf (nodeAt ns (getD (t .«target_segment») i 0)))))
     (read (getD (t .«target_segment») i 0))
 
-abbrev pub targetsOf : List ℕ → Tally → List Target
+abbrev pub targetsOf : List ℕ → Summary → List Target
 targetsOf ns t = tabulate (targetAt ns t) 0 (t .«target_count»)
 
 -- a target by its word
@@ -44,7 +44,7 @@ abbrev pub sameWord : ℕ → ℕ → ℕ → Bool → Bool
 sameWord segment word s w = eqb segment s && Bool·beq (eqb word 1) w
 
 -- whether the targets have one with this segment and this word
-abbrev pub IsThere : Tally → ℕ → Bool → Bool → Type 0
+abbrev pub IsThere : Summary → ℕ → Bool → Bool → Type 0
 IsThere t s w r = (ns : List ℕ) (bs : List Bool) → r ≡ isTarget (targetsOf ns t) (targetFor w s bs)
 
 -- each node has good form
@@ -61,7 +61,7 @@ ifNonzero zero = none
 ifNonzero (suc k) = some (suc k)
 
 -- the counts are within the arrays
-pub record Tame (t : Tally) : Type 0 where
+pub record InLimits (t : Summary) : Type 0 where
   pub nodes-fit : t .count ≤ 128
   pub bits-fit : t .total ≤ 4000
   pub targets-fit : t .«target_count» ≤ 4
@@ -77,9 +77,9 @@ pub record Sized (ns bits known steering held : List ℕ) : Type 0 where
   pub held-flags : length held ≡ 129
 
 -- before line n
-pub record Draws (ns bits known steering held : List ℕ) (t : Tally) (d : Draft) (n : ℕ) : Type 0 where
+pub record Represents (ns bits known steering held : List ℕ) (t : Summary) (d : Draft) (n : ℕ) : Type 0 where
   pub sized : Sized ns bits known steering held
-  pub tame : Tame t
+  pub in-limits : InLimits t
   pub nodes-are : nodesOf ns (t .count) ≡ d .nodes
   pub total-is : t .total ≡ totalBits (d .nodes)
   pub out-is : feedsOf (t .«has_out») (t .out) ≡ d .feeds
@@ -93,8 +93,8 @@ pub record Draws (ns bits known steering held : List ℕ) (t : Tally) (d : Draft
       → heldOr other (d .holds) s ≡ cond (eqb (getD held s 0) 1) (tritsOf (lenOf (nodeAt ns s)) (getD bits s 0) (getD known s 0)) other
   pub sound : Sound d n
 
-abbrev pub emptyTally : Tally
-emptyTally = record {
+abbrev pub emptySummary : Summary
+emptySummary = record {
   count = 0;
   total = 0;
   «has_out» = false;
@@ -105,8 +105,8 @@ emptyTally = record {
   «target_bits» = replicate 4 0;
 }
 
-abbrev pub Drafted : List ℕ → List ℕ → List ℕ → List ℕ → List ℕ → Tally → ℕ → Type 0
-Drafted ns bits known steering held t n = (d : Draft) × Draws ns bits known steering held t d n
+abbrev pub Drafted : List ℕ → List ℕ → List ℕ → List ℕ → List ℕ → Summary → ℕ → Type 0
+Drafted ns bits known steering held t n = (d : Draft) × Represents ns bits known steering held t d n
 
 -- an answer that agrees with the model's: the refusal, or nothing refused and D of the new draft
 abbrev pub Agrees : (Draft → Type 0) → Result Draft → Refusal → Type 0
