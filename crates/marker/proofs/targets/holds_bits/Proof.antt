@@ -5,7 +5,7 @@ use mathlib.Core.Path.{_≡_, sym, _∙_}
 use native.Mathlib.Omega.{arith}
 use Rattle.model.specs.Mark.{holdsBits}
 use Rattle.model.specs.Network.{tabulate}
-use Rattle.words.specs.Words.{wordWidth, wordBit, tritsOf}
+use Rattle.network_words.specs.Words.{wordWidth, wordBit, tritsOf}
 use Rattle.marker.proofs.Judging.{heldFrom, bits-first, bits-last, bit-unknown, bit-other, bit-same}
 use borrow.Author.Needs.{needs}
 use Rattle.marker.proofs.targets.holds_bits.Statement.{statement}
