@@ -10,7 +10,7 @@ use native.Mathlib.Nat.{le-of-suc-le-suc, not-suc-le-zero}
 use lib.ListN.{length, getD}
 use Rattle.model.specs.Demands.{FrameStarts}
 use Rattle.model.specs.Frame.{Register, plain, shadowed, Registers, heldBits, shiftBits, heldAt, shiftAt, Fits, ends, known, unknown, RegisterFits, without, with-shadow, Holds, nothing, more}
-use Rattle.model.specs.Network.{Node, Config, Network, at, noNode, hasShadow, lenOf}
+use Rattle.model.specs.Network.{Node, Config, at, noNode, hasShadow, lenOf}
 use Rattle.model.specs.Path.{bitOf}
 use Rattle.model.specs.Text.{Trit}
 use Rattle.model.proofs.Accepted.{accepted}
