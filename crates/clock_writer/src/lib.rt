@@ -1,4 +1,5 @@
 // The test access port (TAP): the controller's table, the clock machine and the clock writer.
+use model::refusal;
 use plan_text::Form;
 ghost use mathlib.Core.Path.{_≡_};
 ghost use mathlib.Core.List.{map};
@@ -121,14 +122,14 @@ pub fn write_clocks(plan: &[u8], tms: &mut [u8], tdi: &mut [u8]) -> Written
 {
     let form = plan_text::check_form(plan);
     match form {
-        Form::Refused(place) => Written::Refused(14, place),
+        Form::Refused(place) => Written::Refused(refusal::PLAN_FORM, place),
         Form::Good(_) => {
             let n = plan.len();
             if tms.len() < n {
-                return Written::Refused(13, n);
+                return Written::Refused(refusal::BUFFER, n);
             }
             if tdi.len() < n {
-                return Written::Refused(13, n);
+                return Written::Refused(refusal::BUFFER, n);
             }
             write_lines(plan, tms, tdi);
             Written::Clocks(n)

@@ -4,6 +4,7 @@ use crate::targets::judge;
 use crate::targets::refused;
 use marker_operations::Ran;
 use marker_operations::run_plan;
+use model::refusal;
 use network_reader::reader::Acceptance;
 use network_reader::reader::Network;
 use network_reader::reader::read_network;
@@ -66,7 +67,7 @@ pub fn mark(network: &[u8], plan: &[u8]) -> Mark
     }
     let form = check_form(plan);
     match form {
-        Form::Refused(place) => refused(14, place),
+        Form::Refused(place) => refused(refusal::PLAN_FORM, place),
         Form::Good(lines) => mark_operations(net, plan, lines),
     }
 }

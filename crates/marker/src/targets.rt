@@ -1,4 +1,5 @@
 // The targets after the operations: 17 for the lowest that was on no path or does not hold its bits, or the pass with its `got` rows.
+use model::refusal;
 use network_draft::store::Summary;
 use network_path::layout::Nodes;
 use network_path::layout::Words;
@@ -119,11 +120,11 @@ pub fn judge<'a>(
     let mut i: usize = 0;
     while i < t.target_count {
         if first[i] == 0 {
-            return refused(17, i + 1);
+            return refused(refusal::TARGET, i + 1);
         }
         if t.target_write[i] == 1 {
             if !is_held(nodes, t, bits, known, i) {
-                return refused(17, i + 1);
+                return refused(refusal::TARGET, i + 1);
             }
         } else {
             gots = push(gots, i + 1, first[i], places[i]);

@@ -1,4 +1,6 @@
 // The operations of a plan in turn: 15 where the count of bits is not the path length, 16 where the configuration after it is not valid.
+use model::limits::MAX_NODES;
+use model::refusal;
 use network_draft::store::Summary;
 use network_path::layout::Nodes;
 use network_path::layout::Way;
@@ -140,8 +142,8 @@ fn run_lines<'a>(
     while at < plan.len() {
         let scan = bits_at(plan, at);
         match run_operation(nodes, t, scan, k, way, n, bits, known, first, places) {
-            Operated::WrongLength => return Ran::Refused(15, k),
-            Operated::NotValid => return Ran::Refused(16, k),
+            Operated::WrongLength => return Ran::Refused(refusal::BIT_COUNT, k),
+            Operated::NotValid => return Ran::Refused(refusal::CONFIGURATION, k),
             Operated::Next(next) => n = next,
         }
         at += 5 + scan.len();
@@ -165,7 +167,7 @@ pub fn run_plan<'a>(
     requires { ⌜ Slots (now first) (now places) × Reached t (now first) (now places) [] ⌝ }
     ensures { λ r. ⌜ Runs (now (nodes .entry)) t (now (plan .entry)) (now (bits .entry)) (now (known .entry)) r (now (bits .exit)) (now (known .exit)) (now (first .exit)) (now (places .exit)) ⌝ }
 {
-    let mut way = [0u16; 128];
+    let mut way = [0u16; MAX_NODES];
     match find_path(nodes, bits, known, t.out, &mut way) {
         Walked::Path(count) => run_lines(
             nodes,
@@ -178,6 +180,6 @@ pub fn run_plan<'a>(
             first,
             places,
         ),
-        Walked::Stop(m) => Ran::Refused(9, m),
+        Walked::Stop(m) => Ran::Refused(refusal::START, m),
     }
 }

@@ -7,6 +7,7 @@ use mathlib.Core.List.{List}
 use Prim.Native.Nat.{ℕ, zero, suc, _≤_, _<_}
 use lib.ListN.{length, getD, replicate}
 use lib.Dec.{eqb}
+use Rattle.model.specs.Limits.{maxBits, maxNodes}
 use Rattle.model.specs.Result.{Result, ok, refused}
 use Rattle.model.specs.Text.{Trit}
 use Rattle.model.specs.Network.{Target, read, write, lenOf, totalBits, tabulate, steers, heldOr}
@@ -14,7 +15,7 @@ use Rattle.model.specs.NetworkText.{Draft, isHeld, isTarget}
 use Rattle.model.proofs.LineForms.{GoodForm}
 use Rattle.model.proofs.Reading.{Sound}
 use Rattle.network_words.specs.Words.{wordWidth, wordBit, tritsOf}
-use Rattle.network_path.specs.Layout.{nodeAt, nodesOf}
+use Rattle.network_path.specs.Layout.{nodeAt, nodesOf, nodeFields, nodeNumbers}
 use Rattle.network_draft.specs.Store.{Small}
 use Rattle.network_draft.specs.declared.store.Summary.{Summary}
 use Rattle.network_draft.specs.declared.add.Refusal.{Refusal}
@@ -62,19 +63,19 @@ ifNonzero (suc k) = some (suc k)
 
 -- the counts are within the arrays
 pub record InLimits (t : Summary) : Type 0 where
-  pub nodes-fit : t .count ≤ 128
-  pub bits-fit : t .total ≤ 4000
+  pub nodes-fit : t .count ≤ maxNodes
+  pub bits-fit : t .total ≤ maxBits
   pub targets-fit : t .«target_count» ≤ 4
   pub segments : length (t .«target_segment») ≡ 4
   pub words : length (t .«target_write») ≡ 4
   pub bits : length (t .«target_bits») ≡ 4
 
 pub record Sized (ns bits known steering held : List ℕ) : Type 0 where
-  pub nodes : length ns ≡ 1032
-  pub bit-words : length bits ≡ 129
-  pub known-words : length known ≡ 129
-  pub steering-words : length steering ≡ 129
-  pub held-flags : length held ≡ 129
+  pub nodes : length ns ≡ nodeFields
+  pub bit-words : length bits ≡ nodeNumbers
+  pub known-words : length known ≡ nodeNumbers
+  pub steering-words : length steering ≡ nodeNumbers
+  pub held-flags : length held ≡ nodeNumbers
 
 -- before line n
 pub record Represents (ns bits known steering held : List ℕ) (t : Summary) (d : Draft) (n : ℕ) : Type 0 where
@@ -85,11 +86,11 @@ pub record Represents (ns bits known steering held : List ℕ) (t : Summary) (d 
   pub out-is : feedsOf (t .«has_out») (t .out) ≡ d .feeds
   pub targets-are : targetsOf ns t ≡ d .targets
   -- bit b of a segment's word of steering bits
-  pub steering-is : (s b : ℕ) → s ≤ 128 → b < wordWidth → wordBit (getD steering s 0) b ≡ steers (d .nodes) s b
+  pub steering-is : (s b : ℕ) → s ≤ maxNodes → b < wordWidth → wordBit (getD steering s 0) b ≡ steers (d .nodes) s b
   pub steering-small : Small steering
   -- a segment's flag of a `hold` line, and its start bits
-  pub held-is : (s : ℕ) → s ≤ 128 → eqb (getD held s 0) 1 ≡ isHeld (d .holds) s
-  pub start-is : (s : ℕ) → s ≤ 128 → (other : List Trit)
+  pub held-is : (s : ℕ) → s ≤ maxNodes → eqb (getD held s 0) 1 ≡ isHeld (d .holds) s
+  pub start-is : (s : ℕ) → s ≤ maxNodes → (other : List Trit)
       → heldOr other (d .holds) s ≡ cond (eqb (getD held s 0) 1) (tritsOf (lenOf (nodeAt ns s)) (getD bits s 0) (getD known s 0)) other
   pub sound : Sound d n
 

@@ -6,6 +6,7 @@ use mathlib.Core.List.{List}
 use Prim.Native.Nat.{ℕ, _^_, _≤_, _<_}
 use lib.ListN.{length, getD}
 use lib.Dec.{eqb}
+use Rattle.model.specs.Limits.{maxNodes}
 use Rattle.model.specs.Network.{Node, steersAt}
 use Rattle.network_words.specs.Words.{wordWidth, wordBit}
 use Rattle.network_path.specs.Layout.{fieldAt, nodeAt}
@@ -29,11 +30,11 @@ Small ws = (r : ℕ) → getD ws r 0 < 2 ^ wordWidth
 -- the words of steering bits with one bit more
 pub record BitMarked (old : List ℕ) (s b : ℕ) (new : List ℕ) : Type 0 where
   pub size : length new ≡ length old
-  pub marks : (r c : ℕ) → r ≤ 128 → c < wordWidth → wordBit (getD new r 0) c ≡ (wordBit (getD old r 0) c || (eqb s r && eqb b c))
+  pub marks : (r c : ℕ) → r ≤ maxNodes → c < wordWidth → wordBit (getD new r 0) c ≡ (wordBit (getD old r 0) c || (eqb s r && eqb b c))
   pub small : Small old → Small new
 
 -- and with the address bits of a node
 pub record Marked (old : List ℕ) (x : Node) (new : List ℕ) : Type 0 where
   pub size : length new ≡ length old
-  pub marks : (r c : ℕ) → r ≤ 128 → c < wordWidth → wordBit (getD new r 0) c ≡ (wordBit (getD old r 0) c || steersAt x r c)
+  pub marks : (r c : ℕ) → r ≤ maxNodes → c < wordWidth → wordBit (getD new r 0) c ≡ (wordBit (getD old r 0) c || steersAt x r c)
   pub small : Small old → Small new

@@ -6,9 +6,14 @@ use crate::store::mark_steering;
 use crate::store::narrow;
 use crate::store::numbers_of;
 use crate::store::store_numbers;
+use model::limits::MAX_BITS;
+use model::limits::MAX_NODES;
+use model::limits::MAX_TARGETS;
+use model::refusal;
 use network_line::NodeData;
 use network_line::node::bits_of;
 use network_line::node::is_outside;
+use network_path::layout::NODE_NUMBERS;
 use network_path::layout::Nodes;
 use network_path::layout::Words;
 use network_path::layout::segment_len;
@@ -21,9 +26,10 @@ ghost use Rattle.network_line.specs.Line.{SmallNode};
 ghost use Prim.Native.Nat.{_≤_};
 ghost use Rattle.network_draft.specs.Represents.{InLimits, Formed, Short, sameWord, IsThere};
 ghost use Rattle.network_draft.specs.Added.{NodeAdded, OutAdded, HoldAdded, TargetAdded, ReadAdded, WriteAdded};
+ghost use Rattle.model.specs.Limits.{maxNodes};
 ghost use Rattle.model.specs.Network.{lenOf};
 ghost use Rattle.model.specs.Path.{nodeOf};
-ghost use Rattle.network_path.specs.Layout.{nodesOf};
+ghost use Rattle.network_path.specs.Layout.{nodesOf, nodeFields, nodeNumbers};
 
 // Nothing refused, or a refusal's number and place.
 pub enum Refusal {
@@ -48,23 +54,23 @@ fn refuse(t: Summary, number: usize, place: usize) -> Added
 
 // A node line: 4, 2, 3.
 pub fn add_node(nodes: &mut Nodes, steering: &mut Words, t: Summary, n: usize, x: NodeData) -> Added
-    requires { ⌜ (SmallNode x) × (InLimits t) × (length (now nodes) ≡ 1032) × (length (now steering) ≡ 129) ⌝ }
+    requires { ⌜ (SmallNode x) × (InLimits t) × (length (now nodes) ≡ nodeFields) × (length (now steering) ≡ nodeNumbers) ⌝ }
     ensures { λ r. ⌜ NodeAdded (now (nodes .entry)) (now (steering .entry)) t n x r (now (nodes .exit)) (now (steering .exit)) ⌝ }
 {
     if t.has_out {
-        return refuse(t, 4, n);
+        return refuse(t, refusal::ORDER, n);
     }
     if is_outside(n, x) {
-        return refuse(t, 2, n);
+        return refuse(t, refusal::BOUNDS, n);
     }
     let count = t.count;
-    if 128 <= count {
-        return refuse(t, 3, n);
+    if MAX_NODES <= count {
+        return refuse(t, refusal::SIZE, n);
     }
     let len = bits_of(x);
     let total = t.total;
-    if 4000 - total < len {
-        return refuse(t, 3, n);
+    if MAX_BITS - total < len {
+        return refuse(t, refusal::SIZE, n);
     }
     let k = count + 1;
     store_numbers(nodes, k, numbers_of(x));
@@ -84,15 +90,15 @@ pub fn add_out(nodes: &Nodes, t: Summary, n: usize, k: usize) -> Added
     ensures { λ r. ⌜ OutAdded (now (nodes .entry)) t n k r ⌝ }
 {
     if t.has_out {
-        return refuse(t, 4, n);
+        return refuse(t, refusal::ORDER, n);
     }
     let count = t.count;
     if count < k {
-        return refuse(t, 2, n);
+        return refuse(t, refusal::BOUNDS, n);
     }
     let m = first_bad(nodes, count);
     if m != 0 {
-        return refuse(t, 5, m);
+        return refuse(t, refusal::ADDRESS, m);
     }
     let mut next = t;
     next.has_out = true;
@@ -105,7 +111,7 @@ pub fn add_out(nodes: &Nodes, t: Summary, n: usize, k: usize) -> Added
 
 // The LEN of segment s, or 0 where there is no such segment.
 fn len_of(nodes: &Nodes, count: usize, s: usize) -> usize
-    requires { ⌜ count ≤ 128 ⌝ }
+    requires { ⌜ count ≤ maxNodes ⌝ }
     ensures { λ r. ⌜ (r ≡ lenOf (nodeOf (nodesOf (now (nodes .entry)) count) s)) × (1 ≤ r → (1 ≤ s) × (s ≤ count)) ⌝ }
 {
     if s < 1 {
@@ -122,27 +128,27 @@ pub fn add_hold<'a>(
     nodes: &'a Nodes,
     bits: &mut Words,
     known: &mut Words,
-    held: &mut [u16; 129],
+    held: &mut [u16; NODE_NUMBERS],
     t: Summary,
     n: usize,
     s: usize,
     f: &'a [u8],
 ) -> Refusal
-    requires { ⌜ (InLimits t) × Short (now nodes) (t .count) × (length (now bits) ≡ 129) × (length (now known) ≡ 129) × (length (now held) ≡ 129) ⌝ }
+    requires { ⌜ (InLimits t) × Short (now nodes) (t .count) × (length (now bits) ≡ nodeNumbers) × (length (now known) ≡ nodeNumbers) × (length (now held) ≡ nodeNumbers) ⌝ }
     ensures { λ r. ⌜ HoldAdded (now (nodes .entry)) (now (bits .entry)) (now (known .entry)) (now (held .entry)) t n s (now (f .entry)) r (now (bits .exit)) (now (known .exit)) (now (held .exit)) ⌝ }
 {
     if !t.has_out {
-        return Refusal::Refused(4, n);
+        return Refusal::Refused(refusal::ORDER, n);
     }
     let len = len_of(nodes, t.count, s);
     if len == 0 {
-        return Refusal::Refused(6, n);
+        return Refusal::Refused(refusal::ENTRY, n);
     }
     if f.len() != len {
-        return Refusal::Refused(6, n);
+        return Refusal::Refused(refusal::ENTRY, n);
     }
     if held[s] == 1 {
-        return Refusal::Refused(6, n);
+        return Refusal::Refused(refusal::ENTRY, n);
     }
     let w = words_of(f);
     bits[s] = w.bits;
@@ -181,18 +187,18 @@ fn is_same(segment: u16, word: u16, s: usize, write: bool) -> bool
 
 // A target whose segment and bits are right: 6 for a repeat, 7, 8.
 fn add_target(steering: &Words, t: Summary, n: usize, s: usize, write: bool, bits: Word) -> Added
-    requires { ⌜ (InLimits t) × (s ≤ 128) ⌝ }
+    requires { ⌜ (InLimits t) × (s ≤ maxNodes) ⌝ }
     ensures { λ r. ⌜ TargetAdded (now (steering .entry)) t n s write bits r ⌝ }
 {
     if has_target(t, s, write) {
-        return refuse(t, 6, n);
+        return refuse(t, refusal::ENTRY, n);
     }
     if steering[s] != 0 {
-        return refuse(t, 7, n);
+        return refuse(t, refusal::STEERING_TARGET, n);
     }
     let at = t.target_count;
-    if 4 <= at {
-        return refuse(t, 8, n);
+    if MAX_TARGETS <= at {
+        return refuse(t, refusal::TARGET_COUNT, n);
     }
     let mut next = t;
     next.target_segment[at] = narrow(s);
@@ -211,11 +217,11 @@ pub fn add_read<'a>(nodes: &'a Nodes, steering: &'a Words, t: Summary, n: usize,
     ensures { λ r. ⌜ ReadAdded (now (nodes .entry)) (now (steering .entry)) t n s r ⌝ }
 {
     if !t.has_out {
-        return refuse(t, 4, n);
+        return refuse(t, refusal::ORDER, n);
     }
     let len = len_of(nodes, t.count, s);
     if len == 0 {
-        return refuse(t, 6, n);
+        return refuse(t, refusal::ENTRY, n);
     }
     add_target(steering, t, n, s, false, 0)
 }
@@ -233,14 +239,14 @@ pub fn add_write<'a>(
     ensures { λ r. ⌜ WriteAdded (now (nodes .entry)) (now (steering .entry)) t n s (now (f .entry)) r ⌝ }
 {
     if !t.has_out {
-        return refuse(t, 4, n);
+        return refuse(t, refusal::ORDER, n);
     }
     let len = len_of(nodes, t.count, s);
     if len == 0 {
-        return refuse(t, 6, n);
+        return refuse(t, refusal::ENTRY, n);
     }
     if f.len() != len {
-        return refuse(t, 6, n);
+        return refuse(t, refusal::ENTRY, n);
     }
     let w = words_of(f);
     add_target(steering, t, n, s, true, w.bits)

@@ -7,13 +7,14 @@ use network_path::layout::SEG;
 use network_path::layout::field;
 ghost use mathlib.Core.Path.{_≡_};
 ghost use Prim.Native.Nat.{_≤_};
+ghost use Rattle.model.specs.Limits.{maxNodes};
 ghost use Rattle.model.specs.NetworkText.{badAddress, firstBad};
 ghost use Rattle.network_path.specs.Layout.{nodeAt, nodesOf};
 ghost use Rattle.network_draft.specs.Represents.{Formed, ifNonzero};
 
 // Whether node k of count is such a multiplexer.
 fn is_bad(nodes: &Nodes, count: usize, k: usize) -> bool
-    requires { ⌜ (count ≤ 128) × (1 ≤ k) × (k ≤ count) × Formed (now nodes) count ⌝ }
+    requires { ⌜ (count ≤ maxNodes) × (1 ≤ k) × (k ≤ count) × Formed (now nodes) count ⌝ }
     ensures { λ r. ⌜ r ≡ badAddress (nodesOf (now (nodes .entry)) count) (nodeAt (now (nodes .entry)) k) ⌝ }
 {
     let kind = field(nodes, k, KIND);
@@ -43,7 +44,7 @@ fn is_bad(nodes: &Nodes, count: usize, k: usize) -> bool
 
 // The number of the first such multiplexer, or 0.
 pub fn first_bad(nodes: &Nodes, count: usize) -> usize
-    requires { ⌜ (count ≤ 128) × Formed (now nodes) count ⌝ }
+    requires { ⌜ (count ≤ maxNodes) × Formed (now nodes) count ⌝ }
     ensures { λ r. ⌜ ifNonzero r ≡ firstBad (nodesOf (now (nodes .entry)) count) 1 (nodesOf (now (nodes .entry)) count) ⌝ }
 {
     let mut k: usize = 1;

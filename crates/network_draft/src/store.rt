@@ -1,4 +1,5 @@
 // The network as far as it is read: counts and targets go by value, the arrays are lent.
+use model::limits::MAX_NODES;
 use network_line::NodeData;
 use network_path::layout::Nodes;
 use network_path::layout::Words;
@@ -9,6 +10,8 @@ ghost use mathlib.Core.Path.{_≡_};
 ghost use mathlib.Core.Bool.{cond};
 ghost use Prim.Native.Nat.{_≤_};
 ghost use lib.ListN.{length};
+ghost use Rattle.network_path.specs.Layout.{nodeFields, nodeNumbers};
+ghost use Rattle.model.specs.Limits.{maxNodes};
 ghost use Rattle.network_line.specs.Line.{nodeFor, SmallNode};
 ghost use Rattle.network_draft.specs.Store.{NodeNumbers, NumbersStored, Marked, BitMarked};
 
@@ -73,7 +76,7 @@ pub fn numbers_of(x: NodeData) -> [u16; 8]
 
 // The eight numbers go to node k.
 pub fn store_numbers(nodes: &mut Nodes, k: usize, numbers: [u16; 8])
-    requires { ⌜ (k ≤ 128) × (length (now nodes) ≡ 1032) × (length numbers ≡ 8) ⌝ }
+    requires { ⌜ (k ≤ maxNodes) × (length (now nodes) ≡ nodeFields) × (length numbers ≡ 8) ⌝ }
     ensures { λ _. ⌜ NumbersStored (now (nodes .entry)) k numbers (now (nodes .exit)) ⌝ }
 {
     let base = k * 8;
@@ -86,7 +89,7 @@ pub fn store_numbers(nodes: &mut Nodes, k: usize, numbers: [u16; 8])
 
 // The address bits of a node are marked in its segment's word of steering bits.
 pub fn mark_steering(steering: &mut Words, x: NodeData)
-    requires { ⌜ (SmallNode x) × (length (now steering) ≡ 129) ⌝ }
+    requires { ⌜ (SmallNode x) × (length (now steering) ≡ nodeNumbers) ⌝ }
     ensures { λ _. ⌜ Marked (now (steering .entry)) (nodeFor x) (now (steering .exit)) ⌝ }
 {
     match x {
@@ -114,10 +117,10 @@ pub fn mark_steering(steering: &mut Words, x: NodeData)
 
 // Bit b of segment s is marked, if there are such a segment and such a bit.
 pub fn mark_bit(steering: &mut Words, s: usize, b: usize)
-    requires { ⌜ length (now steering) ≡ 129 ⌝ }
+    requires { ⌜ length (now steering) ≡ nodeNumbers ⌝ }
     ensures { λ _. ⌜ BitMarked (now (steering .entry)) s b (now (steering .exit)) ⌝ }
 {
-    if 128 < s {
+    if MAX_NODES < s {
         return;
     }
     if WORD_BITS <= b {

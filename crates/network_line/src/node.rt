@@ -1,5 +1,6 @@
 // The node of a line by itself: whether its numbers are within their bounds, and its bits.
 use crate::NodeData;
+use model::limits::MAX_LEN;
 ghost use mathlib.Core.Path.{_≡_};
 ghost use Prim.Native.Nat.{_≤_};
 ghost use Rattle.model.specs.Network.{lenOf};
@@ -46,7 +47,7 @@ pub fn is_outside(n: usize, x: NodeData) -> bool
             if len < 1 {
                 return true;
             }
-            32 < len
+            MAX_LEN < len
         }
         NodeData::Multiplexer {
             seg: _,

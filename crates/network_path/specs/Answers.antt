@@ -7,11 +7,12 @@ use mathlib.Core.List.{List, map}
 use Prim.Native.Nat.{ℕ, suc, _+_, _-_, _≤_}
 use lib.Dec.{leb}
 use lib.ListN.{length, take, drop}
+use Rattle.model.specs.Limits.{maxNodes}
 use Rattle.model.specs.Text.{Trit}
 use Rattle.model.specs.Network.{Node, segment, multiplexer}
 use Rattle.model.specs.Path.{Walk, path, stop, valueOf, pick, address, walkFrom, pathLength, csu}
 use Rattle.network_words.specs.Words.{tritAt, byteBit}
-use Rattle.network_path.specs.Layout.{nodeAt, lookIn, scanPath, configOf, Way, Safe}
+use Rattle.network_path.specs.Layout.{nodeAt, lookIn, scanPath, configOf, Way, Safe, nodeNumbers}
 use Rattle.network_path.specs.declared.walk.Address.{Address}
 use Rattle.network_path.specs.declared.walk.Address.the-variants.{Input as AtInput, Unknown}
 use Rattle.network_path.specs.declared.walk.Step.{Step}
@@ -47,8 +48,8 @@ stepOf look (multiplexer s b ins) = stepTo (pick ins (address look s b ins))
 -- what the walk asks: room for a segment for each node number
 pub record Walkable (ns : List ℕ) (at : ℕ) (way : List ℕ) (met : ℕ) : Type 0 where
   pub safe : Safe ns at
-  pub size : length way ≡ 128
-  pub room : met + at ≤ 128
+  pub size : length way ≡ maxNodes
+  pub room : met + at ≤ maxNodes
 
 -- the segments that an answer adds
 abbrev pub added : List ℕ → ℕ → ℕ → List ℕ
@@ -64,9 +65,13 @@ abbrev pub FallsFrom : List ℕ → List ℕ → ℕ → ℕ → Walked → Type
 FallsFrom ns way at met (Path n) = (met ≤ n) × (n ≤ met + at) × Way ns (suc at) (added way met n)
 FallsFrom ns way at met (Stopped m) = Unit {0}
 
--- the answer in one number: the count of segments met, or 128 and the number of the multiplexer that stops the walk
+-- added to the number of the multiplexer that stops a walk
+abbrev pub stopped : ℕ
+stopped = maxNodes
+
+-- the answer in one number: the count of segments met, or that of the multiplexer that stops the walk, with `stopped` added
 abbrev pub walkedBy : ℕ → Walked
-walkedBy r = cond (leb r 128) (Path r) (Stopped (r - 128))
+walkedBy r = cond (leb r stopped) (Path r) (Stopped (r - stopped))
 
 -- the answer r, with `old` in the lent memory before and `way` in it after
 pub record Walks (ns bits known : List ℕ) (at : ℕ) (old : List ℕ) (met : ℕ) (r : Walked) (way : List ℕ) : Type 0 where
@@ -79,9 +84,9 @@ pub record Walks (ns bits known : List ℕ) (at : ℕ) (old : List ℕ) (met : �
 
 -- the first n numbers of the lent memory are a path
 pub record HoldsPath (ns way : List ℕ) (n : ℕ) : Type 0 where
-  pub size : length way ≡ 128
-  pub count : n ≤ 128
-  pub falls : Way ns 129 (take n way)
+  pub size : length way ≡ maxNodes
+  pub count : n ≤ maxNodes
+  pub falls : Way ns nodeNumbers (take n way)
 
 -- what an answer says of the walk, and of the lent memory
 abbrev pub told : List ℕ → List ℕ → Walked → Walk
@@ -96,7 +101,7 @@ WalkHeld ns way (Stopped m) = Unit {0}
 pub record FindsPath (ns bits known : List ℕ) (out : ℕ) (r : Walked) (way : List ℕ) : Type 0 where
   pub tells : walkFrom (nodeAt ns) (lookIn bits known) out out ≡ told ns way r
   pub holds : WalkHeld ns way r
-  pub size : length way ≡ 128
+  pub size : length way ≡ maxNodes
 
 -- ---- places
 
@@ -109,8 +114,8 @@ placed Off = none
 
 -- a word for each node number from 0 to 128
 pub record ConfigSized (bits known : List ℕ) : Type 0 where
-  pub words : length bits ≡ 129
-  pub marks : length known ≡ 129
+  pub words : length bits ≡ nodeNumbers
+  pub marks : length known ≡ nodeNumbers
 
 -- what the load asks: a path, and a scan-in bit for each of its places
 pub record Loadable (ns way : List ℕ) (n : ℕ) (scan bits known : List ℕ) : Type 0 where

@@ -12,6 +12,14 @@ use Rattle.network_words.specs.Words.{wordWidth, tritAt, tritsOf}
 
 -- ---- nodes: node k has the numbers 8 k to 8 k + 7
 
+-- the node numbers, 0 for scan-in among them: 129 = 128 + 1
+abbrev pub nodeNumbers : ℕ
+nodeNumbers = 129
+
+-- eight numbers for each: 1,032 = 8 × 129
+abbrev pub nodeFields : ℕ
+nodeFields = 1032
+
 -- number i of node k
 abbrev pub fieldAt : List ℕ → ℕ → ℕ → ℕ
 fieldAt ns k i = getD ns (k * 8 + i) 0
@@ -59,7 +67,7 @@ Way ns m (k ∷ ks) = (1 ≤ k) × (k < m) × (1 ≤ lenOf (nodeAt ns k)) × (le
 
 abbrev pub SafeNode : ℕ → Node → Type 0
 SafeNode k (segment from len shadow) = (from < k) × (1 ≤ len) × (len ≤ wordWidth)
-SafeNode k (multiplexer s b ins) = ((i : ℕ) → i < length ins → getD ins i 0 < k) × (s < 129) × (b + addressBits ins ≤ wordWidth) × (2 ≤ length ins) × (length ins ≤ 4)
+SafeNode k (multiplexer s b ins) = ((i : ℕ) → i < length ins → getD ins i 0 < k) × (s < nodeNumbers) × (b + addressBits ins ≤ wordWidth) × (2 ≤ length ins) × (length ins ≤ 4)
 
 abbrev pub Safe : List ℕ → ℕ → Type 0
 Safe ns n = (k : ℕ) → 1 ≤ k → k ≤ n → SafeNode k (nodeAt ns k)

@@ -4,6 +4,7 @@ use mathlib.Core.Path.{_≡_}
 use mathlib.Core.List.{List}
 use Prim.Native.Nat.{ℕ, _≤_}
 use lib.ListN.{take}
+use Rattle.model.specs.Limits.{maxNodes}
 use Rattle.model.specs.Network.{Network, Config}
 use Rattle.model.specs.Path.{path, walk, pathIn, ValidConfig}
 use Rattle.model.proofs.WellFormed.{WellFormed}
@@ -14,7 +15,7 @@ use Rattle.network_path.specs.Answers.{HoldsPath}
 pub record Stored (net : Network) (ns : List ℕ) (count out : ℕ) : Type 0 where
   pub nodes : net .nodes ≡ nodesOf ns count
   pub feeds : net .out ≡ out
-  pub most : count ≤ 128
+  pub most : count ≤ maxNodes
   pub formed : WellFormed net
 
 -- the path of n segments in the lent memory is the network's path in the configuration

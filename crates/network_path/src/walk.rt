@@ -3,9 +3,11 @@ use crate::layout;
 use crate::layout::Nodes;
 use crate::layout::Way;
 use crate::layout::Words;
+use model::limits::MAX_NODES;
 use network_words::Word;
 ghost use mathlib.Core.Path.{_≡_};
 ghost use Prim.Native.Nat.{_+_, _<_, _≤_};
+ghost use Rattle.model.specs.Limits.{maxNodes};
 ghost use Rattle.network_words.specs.Words.{wordWidth};
 ghost use Rattle.network_path.specs.Layout.{nodeAt, lookIn, SafeNode};
 ghost use Rattle.network_path.specs.Answers.{addressed, addressIn, stepOf, Walkable, walkedBy, Walks, FindsPath};
@@ -42,7 +44,7 @@ pub enum Step {
 
 // One step from a node.
 pub fn step_from<'a>(nodes: &'a Nodes, bits: &'a Words, known: &'a Words, at: usize) -> Step
-    requires { ⌜ (at ≤ 128) × SafeNode at (nodeAt (now nodes) at) ⌝ }
+    requires { ⌜ (at ≤ maxNodes) × SafeNode at (nodeAt (now nodes) at) ⌝ }
     ensures { λ r. ⌜ r ≡ stepOf (lookIn (now (bits .entry)) (now (known .entry))) (nodeAt (now (nodes .entry)) at) ⌝ }
 {
     let kind = layout::field(nodes, at, layout::KIND);
@@ -68,8 +70,11 @@ pub enum Walked {
     Stop(usize),
 }
 
+// Added to the number of the multiplexer that stops a walk: greater than every count of segments.
+const STOPPED: usize = MAX_NODES;
+
 // The walk from node at. The segments met are written to way, behind those met before. The answer in one number: the count of
-// segments met in all, or 128 and the number of the multiplexer that stops the walk.
+// segments met in all, or STOPPED and the number of the multiplexer that stops the walk.
 pub fn walk<'a>(
     nodes: &'a Nodes,
     bits: &'a Words,
@@ -90,7 +95,7 @@ pub fn walk<'a>(
             walk(nodes, bits, known, to, way, met + 1)
         }
         Step::Input(to) => walk(nodes, bits, known, to, way, met),
-        Step::Stop => 128 + at,
+        Step::Stop => STOPPED + at,
     }
 }
 
@@ -98,10 +103,10 @@ pub fn walk<'a>(
 fn answer_of(r: usize) -> Walked
     ensures { λ q. ⌜ q ≡ walkedBy r ⌝ }
 {
-    if r <= 128 {
+    if r <= STOPPED {
         return Walked::Path(r);
     }
-    Walked::Stop(r - 128)
+    Walked::Stop(r - STOPPED)
 }
 
 // The whole walk, from the node that feeds scan-out.

@@ -5,13 +5,14 @@ use mathlib.Core.Bool.{true}
 use mathlib.Core.List.{List}
 use Prim.Native.Nat.{ℕ, suc, _≤_, _<_}
 use lib.ListN.{length, getD, replicate}
+use Rattle.model.specs.Limits.{maxNodes}
 use Rattle.model.specs.Result.{Result, ok, refused, andThen}
 use Rattle.model.specs.Text.{Bytes, parts, lineEnd}
 use Rattle.model.specs.Network.{Network as ModelNetwork, totalBits, steers, steeringBits}
 use Rattle.model.specs.Path.{pathIn, pathLength}
 use Rattle.model.specs.NetworkText.{Draft, noLines, lineOf, addLine, readLines, finish, readNetwork}
 use Rattle.network_words.specs.Words.{wordWidth, wordBit}
-use Rattle.network_path.specs.Layout.{nodesOf, configOf}
+use Rattle.network_path.specs.Layout.{nodesOf, configOf, nodeFields, nodeNumbers}
 use Rattle.network_draft.specs.declared.store.Summary.{Summary}
 use Rattle.network_draft.specs.declared.add.Added.{Added}
 use Rattle.network_draft.specs.declared.add.Refusal.the-variants.{Nothing, Refused}
@@ -62,12 +63,12 @@ readingOf r = readingBy (r .verdict) (r .network)
 -- what an accepted record has besides: array sizes, counts within them, each segment's word of steering bits, and three counts.
 -- Free are the numbers of nodes above the count, bits beyond a segment's LEN, and targets beyond their count.
 pub record RecordComplete (r : Network) : Type 0 where
-  pub nodes-size : length (r .nodes) ≡ 1032
-  pub bits-size : length (r .bits) ≡ 129
-  pub known-size : length (r .known) ≡ 129
-  pub steering-size : length (r .steering) ≡ 129
+  pub nodes-size : length (r .nodes) ≡ nodeFields
+  pub bits-size : length (r .bits) ≡ nodeNumbers
+  pub known-size : length (r .known) ≡ nodeNumbers
+  pub steering-size : length (r .steering) ≡ nodeNumbers
   pub in-limits : InLimits (r .summary)
-  pub steering-is : (s b : ℕ) → s ≤ 128 → b < wordWidth → wordBit (getD (r .steering) s 0) b ≡ steers (nodesOf (r .nodes) (r .summary .count)) s b
+  pub steering-is : (s b : ℕ) → s ≤ maxNodes → b < wordWidth → wordBit (getD (r .steering) s 0) b ≡ steers (nodesOf (r .nodes) (r .summary .count)) s b
   pub steering-small : Small (r .steering)
   pub totals : r .summary .total ≡ totalBits (recordedNetwork r .nodes)
   pub counted : r .«steering_count» ≡ length (steeringBits (recordedNetwork r .nodes))
@@ -106,7 +107,7 @@ LinesFinished ns bits known steering held l r bits′ known′ =
 
 -- the record beside a refusal
 abbrev pub noNetwork : Network
-noNetwork = record { nodes = replicate 1032 0; bits = replicate 129 0; known = replicate 129 0; steering = replicate 129 0; summary = emptySummary; «steering_count» = 0; «start_length» = 0 }
+noNetwork = record { nodes = replicate nodeFields 0; bits = replicate nodeNumbers 0; known = replicate nodeNumbers 0; steering = replicate nodeNumbers 0; summary = emptySummary; «steering_count» = 0; «start_length» = 0 }
 
 abbrev pub RecordCompleteIf : Acceptance → Network → Type 0
 RecordCompleteIf Accepted r = RecordComplete r

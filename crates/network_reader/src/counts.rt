@@ -6,6 +6,7 @@ use network_words::Word;
 use network_words::bit_at;
 ghost use mathlib.Core.Path.{_≡_};
 ghost use Prim.Native.Nat.{_≤_};
+ghost use Rattle.model.specs.Limits.{maxNodes};
 ghost use Rattle.network_words.specs.Words.{wordWidth};
 ghost use Rattle.network_draft.specs.Represents.{Short};
 ghost use Rattle.network_reader.specs.Counts.{countIn, countFrom};
@@ -26,7 +27,7 @@ fn steering_in(word: Word, len: usize) -> usize
 
 // The distinct steering bits of nodes 1 to count.
 pub fn steering_count<'a>(nodes: &'a Nodes, steering: &'a Words, count: usize) -> usize
-    requires { ⌜ (count ≤ 128) × Short (now nodes) count ⌝ }
+    requires { ⌜ (count ≤ maxNodes) × Short (now nodes) count ⌝ }
     ensures { λ r. ⌜ r ≡ countFrom (now (nodes .entry)) (now (steering .entry)) 1 count ⌝ }
 {
     let mut sum: usize = 0;

@@ -1,6 +1,9 @@
 // The reader: a network text to the record, or one refusal.
 use crate::counts::steering_count;
 use crate::start::fill_start;
+use model::limits::MAX_NETWORK_BYTES;
+use model::limits::MAX_NODES;
+use model::refusal;
 use network_draft::add::Added;
 use network_draft::add::Refusal;
 use network_draft::add::add_hold;
@@ -11,6 +14,8 @@ use network_draft::add::add_write;
 use network_draft::store::Summary;
 use network_line::Entry;
 use network_line::parse;
+use network_path::layout::NODE_FIELDS;
+use network_path::layout::NODE_NUMBERS;
 use network_path::layout::Nodes;
 use network_path::layout::Words;
 use network_path::places::path_length;
@@ -19,6 +24,7 @@ use network_path::walk::find_path;
 ghost use mathlib.Core.Path.{_≡_};
 ghost use Prim.Native.Nat.{ℕ, _≤_};
 ghost use lib.ListN.{length};
+ghost use Rattle.model.specs.Limits.{maxNetworkBytes};
 ghost use Rattle.model.specs.Result.{Result};
 ghost use Rattle.model.specs.NetworkText.{Draft, noLines};
 ghost use Rattle.network_draft.specs.Represents.{Represents, Drafted, emptySummary};
@@ -71,7 +77,7 @@ fn add_line(
     bits: &mut Words,
     known: &mut Words,
     steering: &mut Words,
-    held: &mut [u16; 129],
+    held: &mut [u16; NODE_NUMBERS],
     t: Summary,
     line: &[u8],
     n: usize,
@@ -84,7 +90,7 @@ fn add_line(
     let end = p.end;
     let entry = p.entry;
     match entry {
-        Entry::Wrong => answer(Refusal::Refused(1, n), t),
+        Entry::Wrong => answer(Refusal::Refused(refusal::FORM, n), t),
         Entry::Node(x) => add_node(nodes, steering, t, n, x),
         Entry::Out(k) => add_out(nodes, t, n, k),
         Entry::Hold(s) => {
@@ -128,9 +134,9 @@ fn read_lines(
     bits: &mut Words,
     known: &mut Words,
     steering: &mut Words,
-    held: &mut [u16; 129],
+    held: &mut [u16; NODE_NUMBERS],
 ) -> Lines
-    requires { ⌜ (length (now text) ≤ 16384) × Represents (now nodes) (now bits) (now known) (now steering) (now held) emptySummary noLines 1 ⌝ }
+    requires { ⌜ (length (now text) ≤ maxNetworkBytes) × Represents (now nodes) (now bits) (now known) (now steering) (now held) emptySummary noLines 1 ⌝ }
     ensures { λ r. ⌜ LinesRead (now (text .entry)) r (now (nodes .exit)) (now (bits .exit)) (now (known .exit)) (now (steering .exit)) (now (held .exit)) ⌝ }
 {
     let mut summary = empty_summary();
@@ -139,7 +145,7 @@ fn read_lines(
     while at < text.len() {
         let end = text::end_of(text, at, b'\n');
         if end == text.len() {
-            return left(Refusal::Refused(1, n), summary, n);
+            return left(Refusal::Refused(refusal::FORM, n), summary, n);
         }
         let added = add_line(
             nodes,
@@ -172,10 +178,10 @@ fn rejected(number: usize, place: usize) -> Reading
     Reading {
         verdict: Acceptance::Refused(number, place),
         network: Network {
-            nodes: [0; 1032],
-            bits: [0; 129],
-            known: [0; 129],
-            steering: [0; 129],
+            nodes: [0; NODE_FIELDS],
+            bits: [0; NODE_NUMBERS],
+            known: [0; NODE_NUMBERS],
+            steering: [0; NODE_NUMBERS],
             summary: empty_summary(),
             steering_count: 0,
             start_length: 0,
@@ -194,9 +200,9 @@ fn walk_start<'a>(
     requires { ⌜ ((d : Draft) × ((n : ℕ) × Begun (now nodes) (now bits) (now known) (now steering) t d n)) ⌝ }
     ensures { λ r. ⌜ StartWalked (now (nodes .entry)) (now (bits .entry)) (now (known .entry)) (now (steering .entry)) t r ⌝ }
 {
-    let mut way = [0u16; 128];
+    let mut way = [0u16; MAX_NODES];
     match find_path(nodes, bits, known, t.out, &mut way) {
-        Walked::Stop(m) => Ending::Refused(9, m),
+        Walked::Stop(m) => Ending::Refused(refusal::START, m),
         Walked::Path(n) => {
             let count = steering_count(nodes, steering, t.count);
             let length = path_length(nodes, &way, n);
@@ -211,7 +217,7 @@ fn finish<'a>(
     bits: &mut Words,
     known: &mut Words,
     steering: &'a Words,
-    held: &'a [u16; 129],
+    held: &'a [u16; NODE_NUMBERS],
     lines: Lines,
 ) -> Ending
     requires { ⌜ ((a : Result (ℕ × Draft)) × LinesAre (now nodes) (now bits) (now known) (now steering) (now held) a lines) ⌝ }
@@ -226,7 +232,7 @@ fn finish<'a>(
     }
     let t = lines.summary;
     if !t.has_out {
-        return Ending::Refused(4, lines.next);
+        return Ending::Refused(refusal::ORDER, lines.next);
     }
     fill_start(bits, known, steering, held, t.count);
     walk_start(nodes, bits, known, steering, t)
@@ -236,14 +242,14 @@ fn finish<'a>(
 pub fn read_network(text: &[u8]) -> Reading
     ensures { λ r. ⌜ IsReading (now (text .entry)) r ⌝ }
 {
-    if 16384 < text.len() {
-        return rejected(3, 0);
+    if MAX_NETWORK_BYTES < text.len() {
+        return rejected(refusal::SIZE, 0);
     }
-    let mut nodes = [0u16; 1032];
-    let mut bits = [0; 129];
-    let mut known = [0; 129];
-    let mut steering = [0; 129];
-    let mut held = [0u16; 129];
+    let mut nodes = [0u16; NODE_FIELDS];
+    let mut bits = [0; NODE_NUMBERS];
+    let mut known = [0; NODE_NUMBERS];
+    let mut steering = [0; NODE_NUMBERS];
+    let mut held = [0u16; NODE_NUMBERS];
     let lines = read_lines(
         text,
         &mut nodes,

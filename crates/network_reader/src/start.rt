@@ -1,10 +1,13 @@
 // The start bits of segments without a `hold` line: all 0 in steering segments, all unknown in others.
+use network_path::layout::NODE_NUMBERS;
 use network_path::layout::Words;
 use network_words::ALL_KNOWN;
 use network_words::Word;
 ghost use lib.ListN.{length};
 ghost use mathlib.Core.Path.{_≡_};
 ghost use Prim.Native.Nat.{_≤_};
+ghost use Rattle.network_path.specs.Layout.{nodeNumbers};
+ghost use Rattle.model.specs.Limits.{maxNodes};
 ghost use Rattle.network_reader.specs.Start.{freeMarks, OneFilled, StartFilled};
 
 // The word of known marks that a segment starts with, by its word of steering bits.
@@ -22,10 +25,10 @@ fn fill_one<'a>(
     bits: &mut Words,
     known: &mut Words,
     steering: &'a Words,
-    held: &'a [u16; 129],
+    held: &'a [u16; NODE_NUMBERS],
     s: usize,
 )
-    requires { ⌜ (s ≤ 128) × (length (now bits) ≡ 129) × (length (now known) ≡ 129) ⌝ }
+    requires { ⌜ (s ≤ maxNodes) × (length (now bits) ≡ nodeNumbers) × (length (now known) ≡ nodeNumbers) ⌝ }
     ensures { λ _. ⌜ OneFilled (now (bits .entry)) (now (known .entry)) (now (steering .entry)) (now (held .entry)) s (now (bits .exit)) (now (known .exit)) ⌝ }
 {
     if held[s] == 1 {
@@ -40,10 +43,10 @@ pub fn fill_start<'a>(
     bits: &mut Words,
     known: &mut Words,
     steering: &'a Words,
-    held: &'a [u16; 129],
+    held: &'a [u16; NODE_NUMBERS],
     count: usize,
 )
-    requires { ⌜ (count ≤ 128) × (length (now bits) ≡ 129) × (length (now known) ≡ 129) ⌝ }
+    requires { ⌜ (count ≤ maxNodes) × (length (now bits) ≡ nodeNumbers) × (length (now known) ≡ nodeNumbers) ⌝ }
     ensures { λ _. ⌜ StartFilled (now (bits .entry)) (now (known .entry)) (now (steering .entry)) (now (held .entry)) count (now (bits .exit)) (now (known .exit)) ⌝ }
 {
     let mut s: usize = 1;

@@ -1,4 +1,6 @@
 // Plan texts: their form, the line finder, and writing into a buffer.
+use model::limits::MAX_OPERATIONS;
+use model::limits::MAX_PLAN_BYTES;
 ghost use mathlib.Core.Path.{_≡_};
 ghost use mathlib.Core.List.{map};
 ghost use Prim.Native.Nat.{_+_, _≤_};
@@ -9,10 +11,8 @@ ghost use Rattle.plan_text.specs.Form.{formOf, planForm};
 ghost use Rattle.plan_text.specs.Lines.{bitRun, lineFor, nextFrom};
 ghost use Rattle.plan_text.specs.Writing.{writeAt};
 
-// The most bytes and lines of a plan text.
-const MOST_BYTES: usize = 64080;
-
-const MOST_LINES: usize = 16;
+// The bytes that are looked at together.
+const BLOCK: usize = 32;
 
 // The form of a plan text: the count of its lines, or the place of refusal 14.
 pub enum Form {
@@ -33,7 +33,7 @@ fn block_of_bits(s: &[u8], at: usize) -> bool
 {
     let mut all = true;
     let mut j: usize = 0;
-    while j < 32 {
+    while j < BLOCK {
         let b = s[at + j];
         match b {
             b'0'..=b'1' => {}
@@ -50,11 +50,11 @@ fn blocks_end(s: &[u8], at: usize) -> usize
     ensures { λ r. ⌜ r + length (bitRun (drop r (now (s .entry)))) ≡ at + length (bitRun (drop at (now (s .entry)))) ⌝ }
 {
     let mut i = at;
-    while 32 <= s.len() - i {
+    while BLOCK <= s.len() - i {
         if !block_of_bits(s, i) {
             return i;
         }
-        i += 32;
+        i += BLOCK;
     }
     i
 }
@@ -101,13 +101,13 @@ fn line_at(plan: &[u8], at: usize) -> Line
 pub fn check_form(plan: &[u8]) -> Form
     ensures { λ r. ⌜ formOf r ≡ planForm (now (plan .entry)) ⌝ }
 {
-    if MOST_BYTES < plan.len() {
+    if MAX_PLAN_BYTES < plan.len() {
         return Form::Refused(0);
     }
     let mut at: usize = 0;
     let mut n: usize = 0;
     while at < plan.len() {
-        if n == MOST_LINES {
+        if n == MAX_OPERATIONS {
             return Form::Refused(n + 1);
         }
         let line = line_at(plan, at);

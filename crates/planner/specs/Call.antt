@@ -4,6 +4,7 @@ use mathlib.Core.Path.{_≡_}
 use mathlib.Core.List.{List}
 use Prim.Native.Nat.{ℕ, _≤_}
 use lib.ListN.{length, replicate}
+use Rattle.model.specs.Limits.{searchSize}
 use Rattle.model.specs.Result.{ok}
 use Rattle.model.specs.Calls.{writeOver, written, countOf, searchEntries, planned}
 use Rattle.model.proofs.Accepted.{Accepted}
@@ -17,7 +18,7 @@ pub record Searchable (r : Network) (search : List ℕ) : Type 0 where
   pub filled : RecordComplete r
   pub accepted : Accepted (recordedNetwork r)
   pub few : r .«steering_count» ≤ 6
-  pub enough : 11664 ≤ length search
+  pub enough : searchSize ≤ length search
 
 -- the answer to it, the search space and the plan buffer
 pub record PlansIn (r : Network) (search plan : List ℕ) (a : Planned) (search′ plan′ : List ℕ) : Type 0 where

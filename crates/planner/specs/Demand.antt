@@ -6,6 +6,7 @@ use mathlib.Core.Logic.{_↔_}
 use mathlib.Core.List.{List}
 use Prim.Native.Nat.{ℕ, _≤_, _<_}
 use lib.ListN.{length, take}
+use Rattle.model.specs.Limits.{maxPlanBytes, searchSize}
 use Rattle.model.specs.Result.{ok}
 use Rattle.model.specs.Text.{Bytes}
 use Rattle.model.specs.Network.{Network, steeringBits}
@@ -48,12 +49,12 @@ pub record Exact (n : Bytes) (net : Network) (a : Planned) (plan′ : List ℕ) 
 
 abbrev pub PlansExactly : Type 0
 PlansExactly = (n : Bytes) (net : Network) (search plan : List ℕ) (a : Planned) (search′ plan′ : List ℕ) → MadePlan n search plan a search′ plan′
-    → readNetwork n ≡ ok net → length (steeringBits (net .nodes)) ≤ 6 → 11664 ≤ length search → 64080 ≤ length plan → Exact n net a plan′
+    → readNetwork n ≡ ok net → length (steeringBits (net .nodes)) ≤ 6 → searchSize ≤ length search → maxPlanBytes ≤ length plan → Exact n net a plan′
 
 -- 12 and 13 only where too little is lent
 pub record TooLittleLent (search plan : List ℕ) (a : Planned) : Type 0 where
-  pub twelve : (place : ℕ) → a ≡ Refused 12 place → (place ≡ 11664) × (length search < 11664)
-  pub thirteen : (place : ℕ) → a ≡ Refused 13 place → (length plan < place) × (place ≤ 64080)
+  pub twelve : (place : ℕ) → a ≡ Refused 12 place → (place ≡ searchSize) × (length search < searchSize)
+  pub thirteen : (place : ℕ) → a ≡ Refused 13 place → (length plan < place) × (place ≤ maxPlanBytes)
 
 abbrev pub RefusesOnlyShort : Type 0
 RefusesOnlyShort = (n : Bytes) (search plan : List ℕ) (a : Planned) (search′ plan′ : List ℕ) → MadePlan n search plan a search′ plan′ → TooLittleLent search plan a

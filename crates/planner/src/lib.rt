@@ -1,8 +1,13 @@
 // The planner: a network text to the plan with the fewest operations.
+use model::limits::MAX_OPERATIONS;
+use model::limits::MAX_STEERING_BITS;
+use model::limits::SEARCH_SIZE;
+use model::refusal;
 use network_path::layout::wide;
 use network_reader::reader::Acceptance;
 use network_reader::reader::Network;
 use network_reader::reader::read_network;
+use planner_rows::ROW_NUMBERS;
 use planner_rows::Rows;
 use planner_rows::power_of_2;
 use planner_search::plan::Found;
@@ -18,11 +23,6 @@ ghost use Rattle.model.specs.Calls.{makePlan};
 ghost use Rattle.planner_text.specs.Writing.{plannedAnswer};
 ghost use Rattle.planner.specs.Call.{Searchable, PlansIn};
 
-// The most steering bits, and the entries of the search space.
-const MOST_STEERING: usize = 6;
-
-const ENTRIES: usize = 11664;
-
 // The search for the plan of a network with targets: 11, or its text.
 fn search_network(net: Network, search: &mut [u16], plan: &mut [u8]) -> Planned
     requires { ⌜ Searchable net (now search) ⌝ }
@@ -32,8 +32,8 @@ fn search_network(net: Network, search: &mut [u16], plan: &mut [u8]) -> Planned
     let problem = problem_of(&net.nodes, &net.steering, net.summary);
     let start = setting_number(&net.bits, &net.known, problem);
     let full = wide(power_of_2(problem.summary.target_count)) - 1;
-    let mut rows: Rows = [0; 8019];
-    let mut picked = [0u8; 16];
+    let mut rows: Rows = [0; ROW_NUMBERS];
+    let mut picked = [0u8; MAX_OPERATIONS];
     let found = find_plan(
         &net.nodes,
         &net.steering,
@@ -45,7 +45,7 @@ fn search_network(net: Network, search: &mut [u16], plan: &mut [u8]) -> Planned
         &mut picked,
     );
     match found {
-        Found::Nothing => Planned::Refused(11, 0),
+        Found::Nothing => Planned::Refused(refusal::NO_PLAN, 0),
         Found::Operations(n) => write_plan(
             &net.nodes,
             &net.steering,
@@ -87,11 +87,11 @@ pub fn make_plan(network: &[u8], search: &mut [u16], plan: &mut [u8]) -> Planned
         }
         Acceptance::Accepted => {}
     }
-    if MOST_STEERING < net.steering_count {
-        return Planned::Refused(10, net.steering_count);
+    if MAX_STEERING_BITS < net.steering_count {
+        return Planned::Refused(refusal::STEERING_COUNT, net.steering_count);
     }
-    if search.len() < ENTRIES {
-        return Planned::Refused(12, ENTRIES);
+    if search.len() < SEARCH_SIZE {
+        return Planned::Refused(refusal::SEARCH_SPACE, SEARCH_SIZE);
     }
     plan_network(net, search, plan)
 }

@@ -6,6 +6,7 @@ use mathlib.Core.List.{List}
 use Prim.Native.Nat.{ℕ, _+_, _*_, _-_, _≤_, _<_}
 use lib.Dec.{eqb}
 use lib.ListN.{length, getD}
+use Rattle.model.specs.Limits.{maxSettings, searchSize}
 use Rattle.model.specs.Network.{Network}
 use Rattle.network_words.specs.Words.{wordBit}
 use Rattle.planner_theory.specs.Moves.{sysOf}
@@ -32,13 +33,13 @@ leads net tab d i s = cond (eqb (i + 1) d) (sysOf net .goal s) (enters net tab (
 
 -- all that n choices lead to in slot i
 abbrev pub UnionOf : List ℕ → ℕ → List ℕ → ℕ → ℕ → Type 0
-UnionOf tab i lands n r = (m : ℕ) → m < 16 → wordBit r m ≡ someOf (λ c. wordBit (getD tab (i * 729 + getD lands c 0) 0) m) 0 n
+UnionOf tab i lands n r = (m : ℕ) → m < 16 → wordBit r m ≡ someOf (λ c. wordBit (getD tab (i * maxSettings + getD lands c 0) 0) m) 0 n
 
 -- layers 1 to d with the states from which a plan of the operations left exists
 pub record Useful (net : Network) (start d : ℕ) (tab tab′ : List ℕ) : Type 0 where
   pub kept : (j s : ℕ) → 1 ≤ j → j ≤ d → layersOf start tab′ j s ≡ (layersOf start tab j s && can (sysOf net) (d - j) s)
   pub size : length tab′ ≡ length tab
-  pub beyond : (n : ℕ) → 11664 ≤ n → getD tab′ n 0 ≡ getD tab n 0
+  pub beyond : (n : ℕ) → searchSize ≤ n → getD tab′ n 0 ≡ getD tab n 0
 
 -- what the way along the states kept asks: a table of layers 1 to d that has been so kept, d being the least count of operations
 pub record Kept (net : Network) (start d : ℕ) (tab : List ℕ) : Type 0 where

@@ -1,10 +1,12 @@
 // Back along the layers: of each, the states that lead to a goal in the last one are kept.
+use model::limits::MAX_SETTINGS;
 use network_path::layout::Nodes;
 use network_path::layout::Words;
 use network_path::layout::wide;
 use planner_rows::COUNT;
 use planner_rows::GAIN;
 use planner_rows::Lands;
+use planner_rows::MAX_CHOICES;
 use planner_rows::Rows;
 use planner_rows::know_row;
 use planner_rows::list_lands;
@@ -18,6 +20,7 @@ use planner_table::slots::next_setting;
 ghost use mathlib.Core.Path.{_≡_};
 ghost use Prim.Native.Nat.{ℕ, _+_, _*_, _≤_, _<_};
 ghost use lib.ListN.{length, getD};
+ghost use Rattle.model.specs.Limits.{maxSettings, searchSize};
 ghost use Rattle.planner_theory.specs.Moves.{allOf, sysOf};
 ghost use Rattle.planner_settings.specs.Route.{Plannable, Each};
 ghost use Rattle.planner_rows.specs.Rows.{RowsRight, Landing, OfRow};
@@ -37,7 +40,7 @@ fn goal_sets<'a>(
 ) -> u16
     requires { ⌜ Plannable (now nodes) (now steering) problem ⌝ }
     requires { ⌜ RowsRight (now nodes) (now steering) problem (now rows) ⌝ }
-    requires { ⌜ (x < 729) × (full < 16) ⌝ }
+    requires { ⌜ (x < maxSettings) × (full < 16) ⌝ }
     ensures { λ _. ⌜ RowsRight (now (nodes .entry)) (now (steering .entry)) problem (now (rows .exit)) ⌝ }
     ensures { λ r. ⌜ Each (now (nodes .entry)) (now (steering .entry)) problem (λ net. full ≡ allOf (net .targets) → FilteredSets (sysOf net .goal) x sets r) ⌝ }
 {
@@ -53,14 +56,14 @@ fn goal_sets<'a>(
 
 // All sets in slot i that n choices lead to.
 fn union_of(table: &[u16], i: usize, lands: &Lands, n: usize) -> u16
-    requires { ⌜ (11664 ≤ length (now table)) × (n ≤ 64) × (i < 16) ⌝ }
-    requires { ⌜ ((c : ℕ) → c < n → getD (now lands) c 0 < 729) ⌝ }
+    requires { ⌜ (searchSize ≤ length (now table)) × (n ≤ 64) × (i < 16) ⌝ }
+    requires { ⌜ ((c : ℕ) → c < n → getD (now lands) c 0 < maxSettings) ⌝ }
     ensures { λ r. ⌜ UnionOf (now (table .entry)) i (now (lands .entry)) n r ⌝ }
 {
     let mut all: u16 = 0;
     let mut c: usize = 0;
     while c < n {
-        all = all | table[i * 729 + wide(lands[c])];
+        all = all | table[i * MAX_SETTINGS + wide(lands[c])];
         c += 1;
     }
     all
@@ -68,11 +71,11 @@ fn union_of(table: &[u16], i: usize, lands: &Lands, n: usize) -> u16
 
 // Of these sets, those with which an operation in setting x leads into slot i.
 fn useful_sets(rows: &Rows, x: usize, sets: u16, table: &[u16], i: usize) -> u16
-    requires { ⌜ (11664 ≤ length (now table)) × (x < 729) × (i < 16) ⌝ }
+    requires { ⌜ (searchSize ≤ length (now table)) × (x < maxSettings) × (i < 16) ⌝ }
     requires { ⌜ Landing (now rows) x ⌝ }
     ensures { λ r. ⌜ OfRow (now (rows .entry)) x (λ net. FilteredSets (enters net (now (table .entry)) i) x sets r) ⌝ }
 {
-    let mut lands: Lands = [0; 64];
+    let mut lands: Lands = [0; MAX_CHOICES];
     let n = list_lands(rows, x, &mut lands);
     let all = union_of(table, i, &lands, n);
     kept(sets, number(rows, x, GAIN), all)
@@ -93,7 +96,7 @@ fn kept_sets<'a>(
 ) -> u16
     requires { ⌜ Plannable (now nodes) (now steering) problem ⌝ }
     requires { ⌜ RowsRight (now nodes) (now steering) problem (now rows) ⌝ }
-    requires { ⌜ (11664 ≤ length (now table)) × (full < 16) × (d ≤ 16) × (i < d) × (x < 729) ⌝ }
+    requires { ⌜ (searchSize ≤ length (now table)) × (full < 16) × (d ≤ 16) × (i < d) × (x < maxSettings) ⌝ }
     ensures { λ _. ⌜ RowsRight (now (nodes .entry)) (now (steering .entry)) problem (now (rows .exit)) ⌝ }
     ensures { λ r. ⌜ Each (now (nodes .entry)) (now (steering .entry)) problem (λ net. full ≡ allOf (net .targets) → FilteredSets (leads net (now (table .entry)) d i) x sets r) ⌝ }
 {
@@ -118,12 +121,12 @@ fn keep_slot<'a>(
 )
     requires { ⌜ Plannable (now nodes) (now steering) problem ⌝ }
     requires { ⌜ RowsRight (now nodes) (now steering) problem (now rows) ⌝ }
-    requires { ⌜ (11664 ≤ length (now table)) × (full < 16) × (d ≤ 16) × (i < d) ⌝ }
+    requires { ⌜ (searchSize ≤ length (now table)) × (full < 16) × (d ≤ 16) × (i < d) ⌝ }
     ensures { λ _. ⌜ RowsRight (now (nodes .entry)) (now (steering .entry)) problem (now (rows .exit)) ⌝ }
     ensures { λ _. ⌜ Each (now (nodes .entry)) (now (steering .entry)) problem (λ net. full ≡ allOf (net .targets) → SlotKnown net (now (table .entry)) i → Filtered (leads net (now (table .entry)) d i) i (now (table .entry)) (now (table .exit))) ⌝ }
 {
     let end = setting_count(problem.width);
-    let at = i * 729;
+    let at = i * MAX_SETTINGS;
     let mut x = next_setting(table, at, 0, end);
     while x < end {
         let sets = table[at + x];
@@ -145,7 +148,7 @@ pub fn keep_all<'a>(
 )
     requires { ⌜ Plannable (now nodes) (now steering) problem ⌝ }
     requires { ⌜ RowsRight (now nodes) (now steering) problem (now rows) ⌝ }
-    requires { ⌜ (11664 ≤ length (now table)) × (full < 16) × (d ≤ 16) ⌝ }
+    requires { ⌜ (searchSize ≤ length (now table)) × (full < 16) × (d ≤ 16) ⌝ }
     ensures { λ _. ⌜ RowsRight (now (nodes .entry)) (now (steering .entry)) problem (now (rows .exit)) ⌝ }
     ensures { λ _. ⌜ Each (now (nodes .entry)) (now (steering .entry)) problem (λ net. SearchStarts net start full → Met net (start * 16) (now (table .entry)) d → Useful net (start * 16) d (now (table .entry)) (now (table .exit))) ⌝ }
 {

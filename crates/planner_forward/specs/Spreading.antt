@@ -7,6 +7,7 @@ use mathlib.Core.List.{List}
 use mathlib.Core.Option.{none}
 use Prim.Native.Nat.{ℕ, _/_, _%_, _^_, _≤_, _<_}
 use lib.ListN.{length, getD}
+use Rattle.model.specs.Limits.{maxSettings}
 use Rattle.model.specs.Network.{Network, steeringBits}
 use Rattle.network_words.specs.Words.{wordBit}
 use Rattle.planner_theory.specs.Search.{planUpTo}
@@ -22,7 +23,7 @@ pub record Spread (P : ℕ → Type 0) (i : ℕ) (tab seen tab′ seen′ : List
   pub seen-kept : (s : ℕ) → inSeen seen s ≡ true → inSeen seen′ s ≡ true
   pub slot-kept : (s : ℕ) → inSlot tab i s ≡ true → inSlot tab′ i s ≡ true
   pub only : OnlySlot i tab tab′
-  pub seen-size : length seen′ ≡ 729
+  pub seen-size : length seen′ ≡ maxSettings
 
 -- a state of setting y with a set of got
 pub record AtSetting (y got s : ℕ) : Type 0 where

@@ -1,4 +1,5 @@
 // Whether a slot has a goal: a valid setting with all targets reached.
+use model::limits::MAX_SETTINGS;
 use network_path::layout::Nodes;
 use network_path::layout::Words;
 use planner_rows::COUNT;
@@ -13,6 +14,7 @@ ghost use mathlib.Core.Path.{_≡_};
 ghost use mathlib.Core.Bool.{true};
 ghost use Prim.Native.Nat.{ℕ, _≤_, _<_};
 ghost use lib.ListN.{length};
+ghost use Rattle.model.specs.Limits.{maxSettings, searchSize};
 ghost use Rattle.planner_theory.specs.Moves.{allOf};
 ghost use Rattle.planner_settings.specs.Route.{Plannable, Each};
 ghost use Rattle.planner_rows.specs.Rows.{RowsRight};
@@ -31,7 +33,7 @@ fn is_goal<'a>(
 ) -> bool
     requires { ⌜ Plannable (now nodes) (now steering) problem ⌝ }
     requires { ⌜ RowsRight (now nodes) (now steering) problem (now rows) ⌝ }
-    requires { ⌜ (x < 729) × (full < 16) ⌝ }
+    requires { ⌜ (x < maxSettings) × (full < 16) ⌝ }
     ensures { λ _. ⌜ RowsRight (now (nodes .entry)) (now (steering .entry)) problem (now (rows .exit)) ⌝ }
     ensures { λ r. ⌜ Each (now (nodes .entry)) (now (steering .entry)) problem (λ net. r ≡ goalWith net full x sets) ⌝ }
 {
@@ -54,12 +56,12 @@ fn has_goal<'a>(
 ) -> bool
     requires { ⌜ Plannable (now nodes) (now steering) problem ⌝ }
     requires { ⌜ RowsRight (now nodes) (now steering) problem (now rows) ⌝ }
-    requires { ⌜ (11664 ≤ length (now table)) × (full < 16) × (i < 16) ⌝ }
+    requires { ⌜ (searchSize ≤ length (now table)) × (full < 16) × (i < 16) ⌝ }
     ensures { λ _. ⌜ RowsRight (now (nodes .entry)) (now (steering .entry)) problem (now (rows .exit)) ⌝ }
     ensures { λ r. ⌜ Each (now (nodes .entry)) (now (steering .entry)) problem (λ net. full ≡ allOf (net .targets) → SlotKnown net (now (table .entry)) i → GoalIn net (now (table .entry)) i r) ⌝ }
 {
     let end = setting_count(problem.width);
-    let at = i * 729;
+    let at = i * MAX_SETTINGS;
     let mut x = next_setting(table, at, 0, end);
     while x < end {
         let sets = table[at + x];
@@ -84,7 +86,7 @@ pub fn meets_goal<'a>(
 ) -> bool
     requires { ⌜ Plannable (now nodes) (now steering) problem ⌝ }
     requires { ⌜ RowsRight (now nodes) (now steering) problem (now rows) ⌝ }
-    requires { ⌜ (11664 ≤ length (now table)) × (full < 16) × (i < 16) ⌝ }
+    requires { ⌜ (searchSize ≤ length (now table)) × (full < 16) × (i < 16) ⌝ }
     ensures { λ _. ⌜ RowsRight (now (nodes .entry)) (now (steering .entry)) problem (now (rows .exit)) ⌝ }
     ensures { λ r. ⌜ Each (now (nodes .entry)) (now (steering .entry)) problem (λ net. full ≡ allOf (net .targets) → SlotKnown net (now (table .entry)) i → SetsIn (λ (s : ℕ). inSlot (now (table .entry)) i s ≡ true) came → GoalIn net (now (table .entry)) i r) ⌝ }
 {

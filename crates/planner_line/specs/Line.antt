@@ -6,12 +6,13 @@ use mathlib.Core.List.{List, map}
 use Prim.Native.Nat.{ℕ, _+_, _≤_, _<_}
 use lib.Dec.{eqb}
 use lib.ListN.{length, getD, set, take}
+use Rattle.model.specs.Limits.{maxNodes}
 use Rattle.model.specs.Network.{Network, lenOf, steers, tabulate}
 use Rattle.model.specs.Path.{ScanPath, pathLength}
 use Rattle.model.specs.Plan.{wanted}
 use Rattle.model.specs.Tap.{bitByte}
 use Rattle.network_words.specs.Words.{wordWidth, wordBit}
-use Rattle.network_path.specs.Layout.{nodeAt, scanPath}
+use Rattle.network_path.specs.Layout.{nodeAt, scanPath, nodeNumbers}
 use Rattle.network_path.specs.Answers.{HoldsPath}
 use Rattle.network_draft.specs.declared.store.Summary.{Summary}
 use Rattle.network_draft.specs.Represents.{targetsOf}
@@ -26,8 +27,8 @@ WantedWord t s r = (ns : List ℕ) (b : ℕ) → b < lenOf (nodeAt ns s) → wor
 
 -- that word for each segment
 pub record WantsOf (t : Summary) (wants : List ℕ) : Type 0 where
-  pub size : length wants ≡ 129
-  pub are : (s : ℕ) → s ≤ 128 → WantedWord t s (getD wants s 0)
+  pub size : length wants ≡ nodeNumbers
+  pub are : (s : ℕ) → s ≤ maxNodes → WantedWord t s (getD wants s 0)
 
 -- the words with the bits of a target, by its segment and its word, put in if it is a write target
 abbrev pub wantsWith : ℕ → ℕ → ℕ → List ℕ → List ℕ
@@ -67,8 +68,8 @@ pub record HasRoom (ns way : List ℕ) (n at : ℕ) (old : List ℕ) : Type 0 wh
 
 -- the words of steering bits and of what the planner shifts to the others are the network's
 pub record Fills (net : Network) (ns steering wants : List ℕ) : Type 0 where
-  pub steering-is : (s b : ℕ) → s ≤ 128 → b < wordWidth → wordBit (getD steering s 0) b ≡ steers (net .nodes) s b
-  pub wants-are : (s b : ℕ) → s ≤ 128 → b < lenOf (nodeAt ns s) → wordBit (getD wants s 0) b ≡ wanted (net .targets) s b
+  pub steering-is : (s b : ℕ) → s ≤ maxNodes → b < wordWidth → wordBit (getD steering s 0) b ≡ steers (net .nodes) s b
+  pub wants-are : (s b : ℕ) → s ≤ maxNodes → b < lenOf (nodeAt ns s) → wordBit (getD wants s 0) b ≡ wanted (net .targets) s b
 
 abbrev pub pathBits : Network → ScanPath → ℕ → ℕ → List ℕ
 pathBits net p h c = map bitByte (bitsFrom net (placesOf p) h c)

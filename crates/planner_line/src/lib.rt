@@ -16,17 +16,18 @@ ghost use mathlib.Core.Bool.{cond};
 ghost use Prim.Native.Nat.{_+_, _/_, _%_, _<_, _≤_};
 ghost use lib.Dec.{eqb};
 ghost use lib.ListN.{length, take};
+ghost use Rattle.model.specs.Limits.{maxNodes};
 ghost use Rattle.model.specs.Path.{pathLength};
 ghost use Rattle.model.specs.Tap.{bitByte};
 ghost use Rattle.network_words.specs.Words.{wordWidth, wordBit};
-ghost use Rattle.network_path.specs.Layout.{scanPath};
+ghost use Rattle.network_path.specs.Layout.{scanPath, nodeNumbers};
 ghost use Rattle.network_draft.specs.Represents.{InLimits};
 ghost use Rattle.planner_settings.specs.Route.{Unmarked, TargetsWithin};
 ghost use Rattle.planner_line.specs.Line.{wantsWith, WantsOf, ZerosFrom, KeptFrom, SegmentPut, HasRoom, OperationPut, LinePut};
 
 // The bits of a target, by its segment and its word, become its segment's word in wants if it is a write target.
 fn want_target(segment: u16, word: u16, bits: Word, wants: &mut Words)
-    requires { ⌜ (segment ≤ 128) × (length (now wants) ≡ 129) ⌝ }
+    requires { ⌜ (segment ≤ maxNodes) × (length (now wants) ≡ nodeNumbers) ⌝ }
     ensures { λ _. ⌜ now (wants .exit) ≡ wantsWith segment word bits (now (wants .entry)) ⌝ }
 {
     if word != 1 {

@@ -6,6 +6,7 @@ use mathlib.Core.Path.{_≡_}
 use mathlib.Core.List.{List}
 use Prim.Native.Nat.{ℕ, suc, _+_, _*_, _-_, _≤_, _<_}
 use lib.ListN.{length, getD, take}
+use Rattle.model.specs.Limits.{maxSettings}
 use Rattle.model.specs.Network.{Network, steeringBits}
 use Rattle.model.specs.Path.{ScanPath, path, pathLength}
 use Rattle.model.proofs.Accepted.{Accepted}
@@ -15,6 +16,10 @@ use Rattle.planner_theory.specs.Settings.{walkAt, order, baseOf}
 use Rattle.planner_theory.specs.Moves.{count, gain, land}
 use Rattle.planner_steering.specs.declared.Problem.{Problem}
 use Rattle.planner_settings.specs.Route.{Prepared}
+
+-- eleven numbers for each setting: 8,019 = 729 × 11
+abbrev pub rowNumbers : ℕ
+rowNumbers = 8019
 
 abbrev pub rowNumber : List ℕ → ℕ → ℕ → ℕ
 rowNumber rows x i = getD rows (x * 11 + i) 0
@@ -30,7 +35,7 @@ pub record OrderWritten (old : List ℕ) (x : ℕ) (order : List ℕ) (m : ℕ) 
   pub order-is : (i : ℕ) → i < m → rowNumber new x (5 + i) ≡ getD order (m - suc i) 0
   pub first-kept : (i : ℕ) → i < 5 → rowNumber new x i ≡ rowNumber old x i
   pub outside : Outside old x new
-  pub size : length new ≡ 8019
+  pub size : length new ≡ rowNumbers
 
 pub record RowWritten (old : List ℕ) (x width mask base len : ℕ) (order : List ℕ) (m : ℕ) (new : List ℕ) : Type 0 where
   pub known : rowNumber new x 0 ≡ 1
@@ -40,7 +45,7 @@ pub record RowWritten (old : List ℕ) (x width mask base len : ℕ) (order : Li
   pub length-is : rowNumber new x 4 ≡ len
   pub order-is : (i : ℕ) → i < m → rowNumber new x (5 + i) ≡ getD order (m - suc i) 0
   pub outside : Outside old x new
-  pub size : length new ≡ 8019
+  pub size : length new ≡ rowNumbers
 
 -- the row of a setting that is not valid
 pub record Unread (old : List ℕ) (x : ℕ) (new : List ℕ) : Type 0 where
@@ -48,7 +53,7 @@ pub record Unread (old : List ℕ) (x : ℕ) (new : List ℕ) : Type 0 where
   pub count-is : rowNumber new x 1 ≡ 0
   pub gain-is : rowNumber new x 2 ≡ 0
   pub outside : Outside old x new
-  pub size : length new ≡ 8019
+  pub size : length new ≡ rowNumbers
 
 -- ---- the row of a setting of a network
 
@@ -77,12 +82,12 @@ pub record RowRead (ns steering : List ℕ) (p : Problem) (way : List ℕ) (n x 
   pub row : (net : Network) → PathIs net ns steering p way n x → RowOf net new x
   pub known : rowNumber new x 0 ≡ 1
   pub outside : Outside old x new
-  pub size : length new ≡ 8019
+  pub size : length new ≡ rowNumbers
 
 -- each row that is written is that of every network that the arrays hold
 pub record RowsRight (ns steering : List ℕ) (p : Problem) (rows : List ℕ) : Type 0 where
-  pub size : length rows ≡ 8019
-  pub right : (net : Network) → Prepared net ns steering p → (x : ℕ) → x < 729 → rowNumber rows x 0 ≡ 1 → RowOf net rows x
+  pub size : length rows ≡ rowNumbers
+  pub right : (net : Network) → Prepared net ns steering p → (x : ℕ) → x < maxSettings → rowNumber rows x 0 ≡ 1 → RowOf net rows x
 
 -- ---- where the choices lead
 

@@ -1,6 +1,9 @@
 // A table with a row of eleven numbers for each setting: 1 where the row is written, the count of choices, the targets on the path,
 // the setting with 0 in the steering bits on the path, the path's length, and the indices of the steering bits on the path, the
 // last place first.
+use model::limits::MAX_NODES;
+use model::limits::MAX_SETTINGS;
+use network_path::layout::NODE_NUMBERS;
 use network_path::layout::Nodes;
 use network_path::layout::Way;
 use network_path::layout::Words;
@@ -18,8 +21,9 @@ use planner_steering::Problem;
 ghost use mathlib.Core.Path.{_≡_};
 ghost use Prim.Native.Nat.{ℕ, _+_, _^_, _≤_, _<_};
 ghost use lib.ListN.{length, getD};
+ghost use Rattle.model.specs.Limits.{maxSettings};
 ghost use Rattle.planner_settings.specs.Route.{Plannable};
-ghost use Rattle.planner_rows.specs.Rows.{rowNumber, RowWritten, OrderWritten, Unread, PathRead, RowsRight, RowRead, Doubled, Landing, LandsIn};
+ghost use Rattle.planner_rows.specs.Rows.{rowNumber, RowWritten, OrderWritten, Unread, PathRead, RowsRight, RowRead, Doubled, Landing, LandsIn, rowNumbers};
 
 pub const KNOWN: usize = 0;
 
@@ -35,14 +39,20 @@ pub const ORDER: usize = 5;
 
 const ROW: usize = 11;
 
-pub type Rows = [u16; 8019];
+// The numbers of all rows: 8,019.
+pub const ROW_NUMBERS: usize = MAX_SETTINGS * ROW;
+
+pub type Rows = [u16; ROW_NUMBERS];
+
+// The choices of an operation, 0 or 1 for each steering bit on the path: 2 to the power of 6.
+pub const MAX_CHOICES: usize = 64;
 
 // The setting that each choice leads to.
-pub type Lands = [u16; 64];
+pub type Lands = [u16; MAX_CHOICES];
 
 // Number i of row x.
 pub fn number(rows: &Rows, x: usize, i: usize) -> usize
-    requires { ⌜ (x < 729) × (i < 11) ⌝ }
+    requires { ⌜ (x < maxSettings) × (i < 11) ⌝ }
     ensures { λ r. ⌜ r ≡ rowNumber (now (rows .entry)) x i ⌝ }
 {
     wide(rows[x * ROW + i])
@@ -65,7 +75,7 @@ pub fn power_of_2(j: usize) -> u16
 
 // The first m of order, the last first, into row x.
 fn write_order(rows: &mut Rows, x: usize, order: &[usize; 6], m: usize)
-    requires { ⌜ (length (now rows) ≡ 8019) × (x < 729) × (m ≤ 6) ⌝ }
+    requires { ⌜ (length (now rows) ≡ rowNumbers) × (x < maxSettings) × (m ≤ 6) ⌝ }
     requires { ⌜ ((i : ℕ) → i < m → getD (now order) i 0 < 6) ⌝ }
     ensures { λ _. ⌜ OrderWritten (now (rows .entry)) x (now (order .entry)) m (now (rows .exit)) ⌝ }
 {
@@ -88,7 +98,7 @@ fn write_row(
     order: &[usize; 6],
     m: usize,
 )
-    requires { ⌜ (length (now rows) ≡ 8019) × (x < 729) × (m ≤ 6) ⌝ }
+    requires { ⌜ (length (now rows) ≡ rowNumbers) × (x < maxSettings) × (m ≤ 6) ⌝ }
     requires { ⌜ ((i : ℕ) → i < m → getD (now order) i 0 < 6) ⌝ }
     ensures { λ _. ⌜ RowWritten (now (rows .entry)) x count gain base len (now (order .entry)) m (now (rows .exit)) ⌝ }
 {
@@ -112,10 +122,10 @@ fn write_path<'a>(
     rows: &mut Rows,
 )
     requires { ⌜ PathRead (now nodes) (now steering) problem (now way) n x ⌝ }
-    requires { ⌜ (length (now rows) ≡ 8019) × (x < 729) ⌝ }
+    requires { ⌜ (length (now rows) ≡ rowNumbers) × (x < maxSettings) ⌝ }
     ensures { λ _. ⌜ RowRead (now (nodes .entry)) (now (steering .entry)) problem (now (way .entry)) n x (now (rows .entry)) (now (rows .exit)) ⌝ }
 {
-    let mut marks: Marks = [0; 129];
+    let mut marks: Marks = [0; NODE_NUMBERS];
     mark_path(way, n, &mut marks);
     let mut order = [0usize; 6];
     let m = order_of(
@@ -143,7 +153,7 @@ fn write_path<'a>(
 
 // The row of setting x, which is not valid.
 fn write_stop(rows: &mut Rows, x: usize)
-    requires { ⌜ (length (now rows) ≡ 8019) × (x < 729) ⌝ }
+    requires { ⌜ (length (now rows) ≡ rowNumbers) × (x < maxSettings) ⌝ }
     ensures { λ _. ⌜ Unread (now (rows .entry)) x (now (rows .exit)) ⌝ }
 {
     let order = [0usize; 6];
@@ -153,11 +163,11 @@ fn write_stop(rows: &mut Rows, x: usize)
 // The row of setting x is written, by a walk.
 fn read_row<'a>(nodes: &'a Nodes, steering: &'a Words, problem: Problem, x: usize, rows: &mut Rows)
     requires { ⌜ Plannable (now nodes) (now steering) problem ⌝ }
-    requires { ⌜ (x < 729) × RowsRight (now nodes) (now steering) problem (now rows) ⌝ }
+    requires { ⌜ (x < maxSettings) × RowsRight (now nodes) (now steering) problem (now rows) ⌝ }
     ensures { λ _. ⌜ RowsRight (now (nodes .entry)) (now (steering .entry)) problem (now (rows .exit)) ⌝ }
     ensures { λ _. ⌜ rowNumber (now (rows .exit)) x 0 ≡ 1 ⌝ }
 {
-    let mut way: Way = [0; 128];
+    let mut way: Way = [0; MAX_NODES];
     match walk_setting(nodes, steering, problem, x, &mut way) {
         Walked::Stop(_) => write_stop(rows, x),
         Walked::Path(n) => write_path(nodes, steering, problem, &way, n, x, rows),
@@ -173,7 +183,7 @@ pub fn know_row<'a>(
     rows: &mut Rows,
 )
     requires { ⌜ Plannable (now nodes) (now steering) problem ⌝ }
-    requires { ⌜ (x < 729) × RowsRight (now nodes) (now steering) problem (now rows) ⌝ }
+    requires { ⌜ (x < maxSettings) × RowsRight (now nodes) (now steering) problem (now rows) ⌝ }
     ensures { λ _. ⌜ RowsRight (now (nodes .entry)) (now (steering .entry)) problem (now (rows .exit)) ⌝ }
     ensures { λ _. ⌜ rowNumber (now (rows .exit)) x 0 ≡ 1 ⌝ }
 {
@@ -194,7 +204,7 @@ fn weight(j: usize) -> u16
 // Behind the first h, the same with w added.
 fn double(lands: &mut Lands, h: usize, w: u16)
     requires { ⌜ (length (now lands) ≡ 64) × (h ≤ 32) × (w ≤ 243) ⌝ }
-    requires { ⌜ ((c : ℕ) → c < h → getD (now lands) c 0 < 729) ⌝ }
+    requires { ⌜ ((c : ℕ) → c < h → getD (now lands) c 0 < maxSettings) ⌝ }
     ensures { λ _. ⌜ Doubled (now (lands .entry)) h w (now (lands .exit)) ⌝ }
 {
     let mut c: usize = 0;
@@ -206,7 +216,7 @@ fn double(lands: &mut Lands, h: usize, w: u16)
 
 // The settings that the choices in setting x lead to, and the count of choices.
 pub fn list_lands(rows: &Rows, x: usize, lands: &mut Lands) -> usize
-    requires { ⌜ (length (now lands) ≡ 64) × (x < 729) × Landing (now rows) x ⌝ }
+    requires { ⌜ (length (now lands) ≡ 64) × (x < maxSettings) × Landing (now rows) x ⌝ }
     ensures { λ r. ⌜ LandsIn (now (rows .entry)) x r (now (lands .exit)) ⌝ }
 {
     let n = number(rows, x, COUNT);

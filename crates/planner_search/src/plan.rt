@@ -1,5 +1,6 @@
 // The search: the fewest operations from the start to all targets, or nothing. The search space is cleared.
 use crate::trace::trace;
+use model::limits::SEARCH_SIZE;
 use network_path::layout::Nodes;
 use network_path::layout::Words;
 use planner_backward::keep_all;
@@ -9,6 +10,7 @@ use planner_steering::Problem;
 ghost use mathlib.Core.Path.{_≡_};
 ghost use Prim.Native.Nat.{_≤_, _<_};
 ghost use lib.ListN.{length, replicate};
+ghost use Rattle.model.specs.Limits.{maxSettings, searchSize};
 ghost use Rattle.model.specs.Calls.{writeOver, searchEntries};
 ghost use Rattle.planner_settings.specs.Route.{Plannable, Each};
 ghost use Rattle.planner_rows.specs.Rows.{RowsRight};
@@ -24,11 +26,11 @@ pub enum Found {
 
 // The search's own entries become 0; the others stay.
 pub fn clear(table: &mut [u16])
-    requires { ⌜ 11664 ≤ length (now table) ⌝ }
+    requires { ⌜ searchSize ≤ length (now table) ⌝ }
     ensures { λ _. ⌜ now (table .exit) ≡ writeOver (replicate searchEntries 0) (now (table .entry)) ⌝ }
 {
     let mut i = 0;
-    while i < 11664 {
+    while i < SEARCH_SIZE {
         table[i] = 0;
         i += 1;
     }
@@ -47,7 +49,7 @@ pub fn find_plan<'a>(
 ) -> Found
     requires { ⌜ Plannable (now nodes) (now steering) problem ⌝ }
     requires { ⌜ RowsRight (now nodes) (now steering) problem (now rows) ⌝ }
-    requires { ⌜ (11664 ≤ length (now table)) × (start < 729) × (full < 16) × (16 ≤ length (now out)) ⌝ }
+    requires { ⌜ (searchSize ≤ length (now table)) × (start < maxSettings) × (full < 16) × (16 ≤ length (now out)) ⌝ }
     requires { ⌜ Each (now nodes) (now steering) problem (λ net. SearchStarts net start full) ⌝ }
     ensures { λ _. ⌜ RowsRight (now (nodes .entry)) (now (steering .entry)) problem (now (rows .exit)) ⌝ }
     ensures { λ r. ⌜ Each (now (nodes .entry)) (now (steering .entry)) problem (λ net. PlanFound net start (now (out .entry)) r (now (out .exit))) ⌝ }

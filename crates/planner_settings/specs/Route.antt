@@ -4,11 +4,12 @@ use mathlib.Core.Path.{_≡_}
 use mathlib.Core.List.{List, _++_}
 use Prim.Native.Nat.{ℕ, _+_, _≤_, _<_}
 use lib.ListN.{length, getD, take}
+use Rattle.model.specs.Limits.{maxNodes, maxSettings}
 use Rattle.model.specs.Network.{Network, steers, steeringBits}
 use Rattle.model.specs.Path.{ScanPath, bitValue, on}
 use Rattle.model.proofs.Accepted.{Accepted}
 use Rattle.network_words.specs.Words.{wordWidth, wordBit}
-use Rattle.network_path.specs.Layout.{scanPath}
+use Rattle.network_path.specs.Layout.{scanPath, nodeNumbers}
 use Rattle.network_path.specs.Answers.{told, WalkHeld}
 use Rattle.network_path.specs.declared.walk.Walked.{Walked}
 use Rattle.network_path.specs.Stored.{Stored}
@@ -23,21 +24,21 @@ use Rattle.planner_steering.specs.Steering.{bitsOf, steeringOf}
 
 -- no marks
 pub record Unmarked (marks : List ℕ) : Type 0 where
-  pub size : length marks ≡ 129
-  pub none : (s : ℕ) → s ≤ 128 → getD marks s 0 ≡ 0
+  pub size : length marks ≡ nodeNumbers
+  pub none : (s : ℕ) → s ≤ maxNodes → getD marks s 0 ≡ 0
 
 -- 1 for each segment on the path p, 0 for each other node
 abbrev pub MarksOf : List ℕ → ScanPath → Type 0
-MarksOf marks p = (s : ℕ) → s ≤ 128 → getD marks s 0 ≡ bitValue (on p s)
+MarksOf marks p = (s : ℕ) → s ≤ maxNodes → getD marks s 0 ≡ bitValue (on p s)
 
 -- the marks of the path of n segments
 pub record PathMarked (way : List ℕ) (n : ℕ) (marks : List ℕ) : Type 0 where
-  pub size : length marks ≡ 129
+  pub size : length marks ≡ nodeNumbers
   pub marked : (ns : List ℕ) → MarksOf marks (scanPath ns (take n way))
 
 -- each mark is 0 or 1
 abbrev pub Flags : List ℕ → Type 0
-Flags marks = (s : ℕ) → s ≤ 128 → getD marks s 0 ≤ 1
+Flags marks = (s : ℕ) → s ≤ maxNodes → getD marks s 0 ≤ 1
 
 -- ---- the steering bits on a path. They are told by their segments, so the places do not matter
 
@@ -66,11 +67,11 @@ pub record Ordered (segments : List ℕ) (k : ℕ) (way : List ℕ) (n : ℕ) (n
 -- the number of setting x with 0 in the steering bits on the path
 pub record BaseBy (marks segments : List ℕ) (k x r : ℕ) : Type 0 where
   pub is : (p : ScanPath) → MarksOf marks p → (places : List ℕ) → r ≡ baseOf (bitsOf segments places k) p x
-  pub small : r < 729
+  pub small : r < maxSettings
 
 -- each target's segment is the number of a node
 abbrev pub TargetsWithin : Summary → Type 0
-TargetsWithin t = (i : ℕ) → i < t .«target_count» → getD (t .«target_segment») i 0 ≤ 128
+TargetsWithin t = (i : ℕ) → i < t .«target_count» → getD (t .«target_segment») i 0 ≤ maxNodes
 
 -- the targets on the path, a binary digit for each
 abbrev pub MaskBy : List ℕ → Summary → ℕ → Type 0
@@ -84,7 +85,7 @@ pub record Prepared (net : Network) (ns steering : List ℕ) (p : Problem) : Typ
   pub accepted : Accepted net
   pub targets-are : net .targets ≡ targetsOf ns (p .summary)
   pub in-limits : InLimits (p .summary)
-  pub steering-is : (s b : ℕ) → s ≤ 128 → b < wordWidth → wordBit (getD steering s 0) b ≡ steers (net .nodes) s b
+  pub steering-is : (s b : ℕ) → s ≤ maxNodes → b < wordWidth → wordBit (getD steering s 0) b ≡ steers (net .nodes) s b
   pub bits-are : steeringOf p ≡ steeringBits (net .nodes)
   pub few : p .width ≤ 6
 

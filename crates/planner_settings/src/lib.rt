@@ -1,6 +1,8 @@
 // The walk in a setting of the steering bits, and what its path has: the steering bits in the order of their places, the targets,
 // and the digits of the steering bits beside it.
+use model::limits::MAX_SETTINGS;
 use network_draft::store::Summary;
+use network_path::layout::NODE_NUMBERS;
 use network_path::layout::Nodes;
 use network_path::layout::Way;
 use network_path::layout::Words;
@@ -15,13 +17,14 @@ ghost use mathlib.Core.List.{List};
 ghost use Prim.Native.Nat.{ℕ, _/_, _%_, _^_, _≤_, _<_};
 ghost use lib.Dec.{eqb};
 ghost use lib.ListN.{length, getD};
+ghost use Rattle.model.specs.Limits.{maxNodes, maxSettings};
 ghost use Rattle.network_path.specs.Answers.{HoldsPath};
 ghost use Rattle.network_draft.specs.Represents.{InLimits};
 ghost use Rattle.planner_steering.specs.Steering.{Within};
 ghost use Rattle.planner_settings.specs.Route.{Unmarked, PathMarked, Flags, Room, IndicesBehind, Ordered, Steers, BaseBy, TargetsWithin, MaskBy, Plannable, Each, WalkIs};
 
 // A mark for each node number from 0 to 128.
-pub type Marks = [u16; 129];
+pub type Marks = [u16; NODE_NUMBERS];
 
 // Marks of the segments on the path whose n segments way holds.
 pub fn mark_path(way: &Way, n: usize, marks: &mut Marks)
@@ -37,7 +40,7 @@ pub fn mark_path(way: &Way, n: usize, marks: &mut Marks)
 
 // The indices of the steering bits of segment s go behind the first n.
 fn indices_in(segments: &[u16; 6], k: usize, s: usize, order: &mut [usize; 6], n: usize) -> usize
-    requires { ⌜ (k ≤ 6) × (s ≤ 128) × (length (now order) ≡ 6) × (n ≤ 6) ⌝ }
+    requires { ⌜ (k ≤ 6) × (s ≤ maxNodes) × (length (now order) ≡ 6) × (n ≤ 6) ⌝ }
     requires { ⌜ Room (now segments) k s n ⌝ }
     ensures { λ r. ⌜ IndicesBehind (now (segments .entry)) k s (now (order .entry)) n (now (order .exit)) r ⌝ }
 {
@@ -62,7 +65,7 @@ fn indices_at<'a>(
     order: &mut [usize; 6],
     n: usize,
 ) -> usize
-    requires { ⌜ (k ≤ 6) × (s ≤ 128) × (length (now order) ≡ 6) × (n ≤ 6) ⌝ }
+    requires { ⌜ (k ≤ 6) × (s ≤ maxNodes) × (length (now order) ≡ 6) × (n ≤ 6) ⌝ }
     requires { ⌜ Room (now segments) k s n ⌝ }
     requires { ⌜ Steers (now steering) (now segments) k ⌝ }
     ensures { λ r. ⌜ IndicesBehind (now (segments .entry)) k s (now (order .entry)) n (now (order .exit)) r ⌝ }
@@ -112,17 +115,17 @@ pub fn power_of_3(j: usize) -> usize
 // The count of settings of k steering bits.
 pub fn setting_count(k: usize) -> usize
     requires { ⌜ k ≤ 6 ⌝ }
-    ensures { λ r. ⌜ (r ≡ 3 ^ k) × (r ≤ 729) ⌝ }
+    ensures { λ r. ⌜ (r ≡ 3 ^ k) × (r ≤ maxSettings) ⌝ }
 {
     if k == 6 {
-        return 729;
+        return MAX_SETTINGS;
     }
     power_of_3(k)
 }
 
 // Digit j of x, or 0 where segment s is marked.
 fn digit_off(marks: &Marks, s: usize, x: usize, j: usize) -> usize
-    requires { ⌜ (s ≤ 128) × (j < 6) ⌝ }
+    requires { ⌜ (s ≤ maxNodes) × (j < 6) ⌝ }
     ensures { λ r. ⌜ (r ≡ cond (eqb (getD (now (marks .entry)) s 0) 1) 0 (x / 3 ^ j % 3)) × (r ≤ 2) ⌝ }
 {
     if marks[s] == 1 {
@@ -169,12 +172,12 @@ pub fn walk_setting<'a>(
     way: &mut Way,
 ) -> Walked
     requires { ⌜ Plannable (now nodes) (now steering) problem ⌝ }
-    requires { ⌜ length (now way) ≡ 128 ⌝ }
+    requires { ⌜ length (now way) ≡ maxNodes ⌝ }
     ensures { λ r. ⌜ Each (now (nodes .entry)) (now (steering .entry)) problem (λ net. WalkIs net (now (nodes .entry)) x r (now (way .exit))) ⌝ }
-    ensures { λ _. ⌜ length (now (way .exit)) ≡ 128 ⌝ }
+    ensures { λ _. ⌜ length (now (way .exit)) ≡ maxNodes ⌝ }
 {
-    let mut bits = [0; 129];
-    let mut known = [0; 129];
+    let mut bits = [0; NODE_NUMBERS];
+    let mut known = [0; NODE_NUMBERS];
     set_words(&mut bits, &mut known, problem, x);
     find_path(nodes, &bits, &known, problem.summary.out, way)
 }

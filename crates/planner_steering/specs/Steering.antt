@@ -6,6 +6,7 @@ use mathlib.Core.List.{List, [], _∷_, _++_, List·Memᴰ}
 use Prim.Native.Nat.{ℕ, zero, suc, _≤_, _<_}
 use lib.Dec.{eqb, ltb}
 use lib.ListN.{length, getD}
+use Rattle.model.specs.Limits.{maxNodes}
 use Rattle.model.specs.Network.{tabulate, steers, steeringBits}
 use Rattle.network_words.specs.Words.{wordWidth, wordBit}
 use Rattle.network_path.specs.Layout.{nodesOf, lookIn}
@@ -46,9 +47,9 @@ pub record Behind (segments places : List ℕ) (n : ℕ) (more : List (ℕ × �
 
 -- words of steering bits of nodes 1 to count: each bit of a segment that steers is set, and there are at most 6
 pub record Steered (ns steering : List ℕ) (count : ℕ) : Type 0 where
-  pub most : count ≤ 128
+  pub most : count ≤ maxNodes
   pub short : Short ns count
-  pub steering-is : (s b : ℕ) → s ≤ 128 → b < wordWidth → wordBit (getD steering s 0) b ≡ steers (nodesOf ns count) s b
+  pub steering-is : (s b : ℕ) → s ≤ maxNodes → b < wordWidth → wordBit (getD steering s 0) b ≡ steers (nodesOf ns count) s b
   pub few : length (steeringBits (nodesOf ns count)) ≤ 6
 
 -- these counts and targets, with the steering bits of the nodes
@@ -61,7 +62,7 @@ pub record ProblemOf (ns : List ℕ) (t : Summary) (p : Problem) : Type 0 where
 
 -- each is the number of a node
 abbrev pub Within : List ℕ → ℕ → Type 0
-Within segments k = (j : ℕ) → j < k → getD segments j 0 ≤ 128
+Within segments k = (j : ℕ) → j < k → getD segments j 0 ≤ maxNodes
 
 -- distinct bits within the words
 pub record SteeringListed (p : Problem) : Type 0 where
@@ -78,8 +79,8 @@ pub record Cleared (segments : List ℕ) (k : ℕ) (bits known : List ℕ) : Typ
 -- bit b of segment s has the digit d besides
 pub record DigitSet (bits known : List ℕ) (s b d : ℕ) (bits′ known′ : List ℕ) : Type 0 where
   pub sized : ConfigSized bits′ known′
-  pub words : (r c : ℕ) → r ≤ 128 → c < wordWidth → wordBit (getD bits′ r 0) c ≡ (wordBit (getD bits r 0) c || (eqb d 1 && (eqb s r && eqb b c)))
-  pub marks : (r c : ℕ) → r ≤ 128 → c < wordWidth → wordBit (getD known′ r 0) c ≡ (wordBit (getD known r 0) c || (ltb d 2 && (eqb s r && eqb b c)))
+  pub words : (r c : ℕ) → r ≤ maxNodes → c < wordWidth → wordBit (getD bits′ r 0) c ≡ (wordBit (getD bits r 0) c || (eqb d 1 && (eqb s r && eqb b c)))
+  pub marks : (r c : ℕ) → r ≤ maxNodes → c < wordWidth → wordBit (getD known′ r 0) c ≡ (wordBit (getD known r 0) c || (ltb d 2 && (eqb s r && eqb b c)))
 
 -- the words hold setting x of these steering bits
 pub record SetTo (sb : List (ℕ × ℕ)) (x : ℕ) (bits known : List ℕ) : Type 0 where

@@ -1,4 +1,5 @@
 // The steering bits of a network in order, and their settings by number: words from a number, and a number from words.
+use model::limits::MAX_STEERING_BITS;
 use network_draft::store::Summary;
 use network_draft::store::mark_bit;
 use network_path::layout::Nodes;
@@ -9,6 +10,7 @@ use network_words::bit_at;
 ghost use mathlib.Core.Path.{_≡_};
 ghost use Prim.Native.Nat.{_+_, _<_, _≤_};
 ghost use lib.ListN.{length};
+ghost use Rattle.model.specs.Limits.{maxNodes};
 ghost use Rattle.model.specs.Network.{steeringBits};
 ghost use Rattle.network_words.specs.Words.{wordWidth, tritAt};
 ghost use Rattle.network_path.specs.Layout.{nodesOf, lookIn};
@@ -20,8 +22,8 @@ ghost use Rattle.planner_steering.specs.Steering.{bitsOf, steeringOf, ma
 // its steering bits, by segment and bit, with their count, the width of a setting.
 pub struct Problem {
     pub summary: Summary,
-    pub segments: [u16; 6],
-    pub places: [u16; 6],
+    pub segments: [u16; MAX_STEERING_BITS],
+    pub places: [u16; MAX_STEERING_BITS],
     pub width: usize,
 }
 
@@ -30,11 +32,11 @@ fn list_segment(
     word: Word,
     len: usize,
     s: usize,
-    segments: &mut [u16; 6],
-    places: &mut [u16; 6],
+    segments: &mut [u16; MAX_STEERING_BITS],
+    places: &mut [u16; MAX_STEERING_BITS],
     n: usize,
 ) -> usize
-    requires { ⌜ (s ≤ 128) × (len ≤ wordWidth) × (n + length (markedIn word s 0 len) ≤ 6) × Pairs (now segments) (now places) ⌝ }
+    requires { ⌜ (s ≤ maxNodes) × (len ≤ wordWidth) × (n + length (markedIn word s 0 len) ≤ 6) × Pairs (now segments) (now places) ⌝ }
     ensures { λ r. ⌜ Behind (now (segments .entry)) (now (places .entry)) n (markedIn word s 0 len) (now (segments .exit)) (now (places .exit)) r ⌝ }
 {
     let mut m = n;
@@ -55,8 +57,8 @@ fn list_steering<'a>(
     nodes: &'a Nodes,
     steering: &'a Words,
     count: usize,
-    segments: &mut [u16; 6],
-    places: &mut [u16; 6],
+    segments: &mut [u16; MAX_STEERING_BITS],
+    places: &mut [u16; MAX_STEERING_BITS],
 ) -> usize
     requires { ⌜ Steered (now nodes) (now steering) count × Pairs (now segments) (now places) ⌝ }
     ensures { λ r. ⌜ (bitsOf (now (segments .exit)) (now (places .exit)) r ≡ steeringBits (nodesOf (now (nodes .entry)) count)) × (r ≤ 6) ⌝ }
@@ -75,8 +77,8 @@ pub fn problem_of<'a>(nodes: &'a Nodes, steering: &'a Words, summary: Summary) -
     requires { ⌜ Steered (now nodes) (now steering) (summary .count) ⌝ }
     ensures { λ r. ⌜ ProblemOf (now (nodes .entry)) summary r ⌝ }
 {
-    let mut segments = [0u16; 6];
-    let mut places = [0u16; 6];
+    let mut segments = [0u16; MAX_STEERING_BITS];
+    let mut places = [0u16; MAX_STEERING_BITS];
     let width = list_steering(nodes, steering, summary.count, &mut segments, &mut places);
     Problem {
         summary,

@@ -8,12 +8,13 @@ use mathlib.Core.List.{List}
 use Prim.Native.Nat.{ℕ, zero, suc, _+_, _*_, _/_, _%_, _^_, _≤_, _<_}
 use lib.Dec.{eqb, ltb}
 use lib.ListN.{length, getD}
+use Rattle.model.specs.Limits.{maxSettings, searchSize}
 use Rattle.model.specs.Network.{Network, steeringBits}
 use Rattle.network_words.specs.Words.{wordBit}
 
 -- state s is in slot i
 abbrev pub inSlot : List ℕ → ℕ → ℕ → Bool
-inSlot tab i s = ltb s 11664 && wordBit (getD tab (i * 729 + s / 16) 0) (s % 16)
+inSlot tab i s = ltb s searchSize && wordBit (getD tab (i * maxSettings + s / 16) 0) (s % 16)
 
 -- layer 0 is the start alone
 unfoldable pub layersOf : ℕ → List ℕ → ℕ → ℕ → Bool
@@ -26,7 +27,7 @@ inSeen seen s = wordBit (getD seen (s / 16) 0) (s % 16)
 
 -- entry n is not of slot i
 abbrev pub OutOfSlot : ℕ → ℕ → Type 0
-OutOfSlot i n = (n < i * 729) ⊎ (i * 729 + 729 ≤ n)
+OutOfSlot i n = (n < i * maxSettings) ⊎ (i * maxSettings + maxSettings ≤ n)
 
 -- the entries outside slot i are as they were
 abbrev pub Others : ℕ → List ℕ → List ℕ → Type 0

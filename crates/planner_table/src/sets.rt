@@ -6,6 +6,9 @@ ghost use lib.Bits.{bitOr};
 ghost use Rattle.network_words.specs.Words.{wordBit};
 ghost use Rattle.planner_table.specs.Sets.{Joined, JoinedAt, KeptAt};
 
+// The sets of targets: 2 to the power of 4.
+const TARGET_SETS: usize = 16;
+
 // A set of targets as the count of a shift.
 fn shift_to(m: usize) -> u16
     requires { ⌜ m < 16 ⌝ }
@@ -52,7 +55,7 @@ pub fn joined(sets: u16, g: usize) -> u16
     }
     let mut r: u16 = 0;
     let mut m: usize = 0;
-    while m < 16 {
+    while m < TARGET_SETS {
         r = joined_at(r, sets, g, m);
         m += 1;
     }
@@ -83,7 +86,7 @@ pub fn kept(sets: u16, g: usize, all: u16) -> u16
     }
     let mut r: u16 = 0;
     let mut m: usize = 0;
-    while m < 16 {
+    while m < TARGET_SETS {
         r = kept_at(r, sets, g, all, m);
         m += 1;
     }

@@ -4,6 +4,7 @@ use mathlib.Core.Path.{_≡_}
 use mathlib.Core.List.{List}
 use Prim.Native.Nat.{ℕ, _^_, _≤_, _<_}
 use lib.ListN.{length, getD}
+use Rattle.model.specs.Limits.{maxSettings}
 use Rattle.model.specs.Network.{Network, steeringBits}
 use Rattle.model.specs.PlanText.{writePlan}
 use Rattle.model.specs.Result.{Result, ok, refused}
@@ -19,7 +20,7 @@ use Rattle.planner_text.specs.declared.Planned.the-variants.{Written, Re
 -- the setting that choice c leads to from setting x of each network that has row x
 pub record LandIn (rows : List ℕ) (x c r : ℕ) : Type 0 where
   pub of : (net : Network) → Lands net rows x → r ≡ land net x c
-  pub small : r < 729
+  pub small : r < maxSettings
 
 -- the first n entries of picked are choices that can be made one after the other from setting start on
 pub record Picked (net : Network) (start : ℕ) (picked : List ℕ) (n : ℕ) (cs : List ℕ) : Type 0 where

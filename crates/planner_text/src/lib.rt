@@ -1,4 +1,8 @@
 // The text of a plan from the choices of the search: its length, then its lines, each along the path of its setting.
+use model::limits::MAX_NODES;
+use model::limits::MAX_OPERATIONS;
+use model::refusal;
+use network_path::layout::NODE_NUMBERS;
 use network_path::layout::Nodes;
 use network_path::layout::Way;
 use network_path::layout::Words;
@@ -9,6 +13,7 @@ use planner_line::put_line;
 use planner_rows::COUNT;
 use planner_rows::LENGTH;
 use planner_rows::Lands;
+use planner_rows::MAX_CHOICES;
 use planner_rows::Rows;
 use planner_rows::know_row;
 use planner_rows::list_lands;
@@ -17,6 +22,7 @@ use planner_settings::walk_setting;
 use planner_steering::Problem;
 ghost use mathlib.Core.Path.{_≡_};
 ghost use Prim.Native.Nat.{_<_};
+ghost use Rattle.model.specs.Limits.{maxSettings};
 ghost use Rattle.planner_rows.specs.Rows.{rowNumber, RowsRight, Landing};
 ghost use Rattle.planner_text.specs.Writing.{LandIn, Countable, Counts, Writable, Writes, GivesText};
 
@@ -35,11 +41,11 @@ fn as_index(c: u8) -> usize
 
 // The setting that choice c leads to from setting x.
 fn land_of(rows: &Rows, x: usize, c: usize) -> usize
-    requires { ⌜ (x < 729) × Landing (now rows) x ⌝ }
+    requires { ⌜ (x < maxSettings) × Landing (now rows) x ⌝ }
     requires { ⌜ c < rowNumber (now rows) x 1 ⌝ }
     ensures { λ r. ⌜ LandIn (now (rows .entry)) x c r ⌝ }
 {
-    let mut lands: Lands = [0; 64];
+    let mut lands: Lands = [0; MAX_CHOICES];
     list_lands(rows, x, &mut lands);
     wide(lands[c])
 }
@@ -51,7 +57,7 @@ fn text_length<'a>(
     problem: Problem,
     rows: &mut Rows,
     start: usize,
-    picked: &'a [u8; 16],
+    picked: &'a [u8; MAX_OPERATIONS],
     n: usize,
 ) -> usize
     requires { ⌜ Countable (now nodes) (now steering) problem start (now picked) n ⌝ }
@@ -78,7 +84,7 @@ fn write_text<'a>(
     problem: Problem,
     rows: &mut Rows,
     start: usize,
-    picked: &'a [u8; 16],
+    picked: &'a [u8; MAX_OPERATIONS],
     n: usize,
     plan: &mut [u8],
 )
@@ -86,9 +92,9 @@ fn write_text<'a>(
     requires { ⌜ RowsRight (now nodes) (now steering) problem (now rows) ⌝ }
     ensures { λ _. ⌜ Writes (now (nodes .entry)) (now (steering .entry)) problem start (now (picked .entry)) n (now (plan .entry)) (now (plan .exit)) ⌝ }
 {
-    let mut wants: Words = [0; 129];
+    let mut wants: Words = [0; NODE_NUMBERS];
     list_wants(problem.summary, &mut wants);
-    let mut way: Way = [0; 128];
+    let mut way: Way = [0; MAX_NODES];
     let mut at: usize = 0;
     let mut x = start;
     let mut i: usize = 0;
@@ -113,7 +119,7 @@ pub fn write_plan<'a>(
     problem: Problem,
     rows: &mut Rows,
     start: usize,
-    picked: &'a [u8; 16],
+    picked: &'a [u8; MAX_OPERATIONS],
     n: usize,
     plan: &mut [u8],
 ) -> Planned
@@ -123,7 +129,7 @@ pub fn write_plan<'a>(
 {
     let needed = text_length(nodes, steering, problem, rows, start, picked, n);
     if plan.len() < needed {
-        return Planned::Refused(13, needed);
+        return Planned::Refused(refusal::BUFFER, needed);
     }
     write_text(nodes, steering, problem, rows, start, picked, n, plan);
     Planned::Written(needed)

@@ -1,5 +1,6 @@
 // The clock program's lines.
 use clock_writer::Written;
+use model::limits::MAX_PLAN_BYTES;
 ghost use Prim.Native.Nat.{_≤_};
 ghost use lib.ListN.{length};
 ghost use Rattle.plan_text.specs.Form.{HasForm};
@@ -30,8 +31,8 @@ fn show_operations(plan: &[u8], tms: &[u8], tdi: &[u8])
 
 // What writing the clocks of a plan text gives.
 pub fn show(plan: &[u8]) {
-    let mut tms = [0u8; 64080];
-    let mut tdi = [0u8; 64080];
+    let mut tms = [0u8; MAX_PLAN_BYTES];
+    let mut tdi = [0u8; MAX_PLAN_BYTES];
     let written = clock_writer::write_clocks(plan, &mut tms, &mut tdi);
     match written {
         Written::Clocks(_) => show_operations(plan, &tms, &tdi),

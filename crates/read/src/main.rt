@@ -1,6 +1,8 @@
 // read NETWORK: the network text in that file, or on standard input without an argument.
 // It prints `ok` with the counts of nodes, segment bits, distinct steering bits and the start path's bits,
 // or `fail` with number and place.
+use model::limits::MAX_NETWORK_BYTES;
+
 fn main() {
     if 2 < os::arg_count() {
         program_io::put_usage(
@@ -8,7 +10,7 @@ fn main() {
         );
         return;
     }
-    let mut text = [0u8; 16385];
+    let mut text = [0u8; MAX_NETWORK_BYTES + 1];
     let input = program_io::read_input(b"NETWORK", &mut text);
     if input.is_read {
         let n = input.count;
