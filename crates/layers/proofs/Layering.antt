@@ -12,8 +12,8 @@ use borrow.Author.Tests.{eq-eqb, ne-eqb, eqb-true, eqb-false}
 use lib.Dec.{eqb, ltb}
 use lib.ListN.{getD, set, replicate, length-replicate}
 use lib.Seq.{getD-set-same, getD-set-other}
+use Rattle.model.specs.Accepted.{Accepted}
 use Rattle.model.specs.Network.{Network}
-use Rattle.model.proofs.Accepted.{Accepted}
 use Rattle.model.proofs.Lists.{true-false, zero-at, and-false-right}
 use Rattle.words.specs.Words.{wordBit}
 use Rattle.words.proofs.WordLaws.{zero-bit}

@@ -4,9 +4,9 @@ use mathlib.Core.Path.{_≡_}
 use mathlib.Core.List.{List}
 use Prim.Native.Nat.{ℕ, _≤_}
 use lib.ListN.{take}
+use Rattle.model.specs.Accepted.{WellFormed}
 use Rattle.model.specs.Network.{Network, Config}
 use Rattle.model.specs.Path.{path, walk, pathIn, ValidConfig}
-use Rattle.model.proofs.WellFormed.{WellFormed}
 use Rattle.path.specs.Layout.{nodesOf, scanPath}
 use Rattle.path.specs.Answers.{HoldsPath}
 

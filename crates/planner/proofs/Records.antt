@@ -6,9 +6,9 @@ use Prim.Native.Nat.{ℕ, zero, suc, _≤_, _<_}
 use native.Mathlib.Nat.{not-suc-le-zero}
 use native.Mathlib.Omega.{arith}
 use lib.ListN.{length, getD}
+use Rattle.model.specs.Accepted.{Accepted}
 use Rattle.model.specs.Network.{Node, at, noNode, lenOf, steeringBits}
 use Rattle.model.specs.Path.{bitOf}
-use Rattle.model.proofs.Accepted.{Accepted}
 use Rattle.model.proofs.Lists.{length-tabulate}
 use Rattle.words.specs.Words.{wordWidth}
 use Rattle.path.specs.Layout.{nodeAt, nodesOf, configOf, lookIn}

@@ -6,7 +6,7 @@ use Prim.Native.Nat.{ℕ, _≤_}
 use lib.ListN.{length, replicate}
 use Rattle.model.specs.Result.{ok}
 use Rattle.model.specs.Calls.{writeOver, written, countOf, searchEntries, planned}
-use Rattle.model.proofs.Accepted.{Accepted}
+use Rattle.model.specs.Accepted.{Accepted}
 use Rattle.network.specs.declared.reader.Network.{Network}
 use Rattle.network.specs.Reads.{networkOf, Filled}
 use Rattle.plan_writer.specs.declared.Planned.{Planned}

@@ -6,9 +6,9 @@ use mathlib.Core.Path.{_≡_}
 use mathlib.Core.List.{List}
 use Prim.Native.Nat.{ℕ, suc, _+_, _*_, _-_, _≤_, _<_}
 use lib.ListN.{length, getD, take}
+use Rattle.model.specs.Accepted.{Accepted}
 use Rattle.model.specs.Network.{Network, steeringBits}
 use Rattle.model.specs.Path.{ScanPath, path, pathLength}
-use Rattle.model.proofs.Accepted.{Accepted}
 use Rattle.path.specs.Layout.{scanPath}
 use Rattle.path.specs.Answers.{HoldsPath}
 use Rattle.search.specs.Settings.{walkAt, order, baseOf}

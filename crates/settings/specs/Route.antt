@@ -4,9 +4,9 @@ use mathlib.Core.Path.{_≡_}
 use mathlib.Core.List.{List, _++_}
 use Prim.Native.Nat.{ℕ, _+_, _≤_, _<_}
 use lib.ListN.{length, getD, take}
+use Rattle.model.specs.Accepted.{Accepted}
 use Rattle.model.specs.Network.{Network, steers, steeringBits}
 use Rattle.model.specs.Path.{ScanPath, bitValue, on}
-use Rattle.model.proofs.Accepted.{Accepted}
 use Rattle.words.specs.Words.{wordWidth, wordBit}
 use Rattle.path.specs.Layout.{scanPath}
 use Rattle.path.specs.Answers.{told, WalkHeld}
