@@ -9,6 +9,7 @@ use native.Mathlib.Omega.{arith}
 use native.Mathlib.Nat.{add-zero}
 use lib.ListN.{length, getD, take, drop, length-append, List·getD-append, length-map}
 use lib.Seq.{take-append-add, take-append-le, getD-append-add, split-at}
+use Rattle.model.specs.Accepted.{WellFormed}
 use Rattle.model.specs.Frame.{Registers, setting, setPath, Captures, Frame, play, showing}
 use Rattle.model.specs.Network.{Network}
 use Rattle.model.specs.Path.{ScanPath, walk, pathLength}
@@ -18,7 +19,6 @@ use Rattle.model.specs.Tap.{idle, Clock, opClocks, planClocks}
 use Rattle.model.proofs.Lists.{getD-map-some, length-tabulate, getD-tabulate}
 use Rattle.model.proofs.PlanTexts.{length-op}
 use Rattle.model.proofs.Playing.{fr, plays-play, plays-showing, plays-with, HasPath, fedAt, opShows, operation, to-capture}
-use Rattle.model.proofs.WellFormed.{WellFormed}
 use Rattle.model.proofs.WholePlan.{play-append, showing-append, length-showing, planClocks-append, OpAt}
 
 module _ (net : Network) (wf : WellFormed net) (fed : Captures) (plan : Plan) (registers : Registers) (ps : List ScanPath) (d : ℕ) (l : d < length plan)

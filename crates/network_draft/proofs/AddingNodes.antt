@@ -13,9 +13,9 @@ use Rattle.model.specs.Result.{ok, refused}
 use Rattle.model.specs.Text.{Trit}
 use Rattle.model.specs.Network.{Node, lenOf, totalBits, tabulate, steersAt, heldOr, Held}
 use Rattle.model.specs.NetworkText.{Draft, hasOut, outside, addNode, withNode, isHeld, isSome}
+use Rattle.model.specs.Drafted.{GoodForm, Sound, Stage, no-out, behind-out}
 use Rattle.model.proofs.Lists.{tabulate-cong, true-false, tabulate-snoc}
-use Rattle.model.proofs.LineForms.{GoodForm}
-use Rattle.model.proofs.Reading.{Sound, Stage, no-out, behind-out, sound-node, total-more}
+use Rattle.model.proofs.Reading.{sound-node, total-more}
 use Rattle.network_words.specs.Words.{tritsOf}
 use Rattle.network_path.specs.Layout.{nodeAt, nodesOf}
 use Rattle.network_draft.specs.declared.store.Summary.{Summary}

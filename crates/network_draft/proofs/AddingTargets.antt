@@ -15,8 +15,9 @@ use borrow.Author.Tests.{eq-eqb, ne-eqb, le-leb, lt-leb, leb-true, not-false}
 use Rattle.model.specs.Result.{Result, ok, refused}
 use Rattle.model.specs.Network.{Node, segment, multiplexer, Target, read, write, at, noNode, hasShadow, lenOf, addressBits, tabulate, steers, steersAt, addressIn, isSteering}
 use Rattle.model.specs.NetworkText.{Draft, hasOut, isSome, badAddress, fitsTarget, sameTarget, isTarget, targetSegment, addFitting, addTarget, withTarget}
+use Rattle.model.specs.Drafted.{Stage, no-out, behind-out}
 use Rattle.model.proofs.Lists.{true-false, and-false-right, and-true-right, and-parts, or-left, or-right, eqb-same, tabulate-cong, tabulate-snoc}
-use Rattle.model.proofs.Reading.{Stage, no-out, behind-out, sound-target}
+use Rattle.model.proofs.Reading.{sound-target}
 use Rattle.model.proofs.Accepted.{no-bad, unsteered-bits}
 use Rattle.network_words.specs.Words.{wordWidth, wordBit}
 use Rattle.network_path.specs.Layout.{nodeAt}

@@ -13,8 +13,8 @@ use Rattle.model.specs.Result.{Result, ok, refused}
 use Rattle.model.specs.Network.{Node, segment, multiplexer, tabulate, noNode, lenOf, steers, steersAt, at}
 use Rattle.model.specs.Path.{nodeOf}
 use Rattle.model.specs.NetworkText.{Draft, hasOut, isSome, outside}
+use Rattle.model.specs.Drafted.{GoodForm}
 use Rattle.model.proofs.Lists.{or-parts, length-tabulate, getD-tabulate, or-false-right, or-assoc}
-use Rattle.model.proofs.LineForms.{GoodForm}
 use Rattle.network_words.specs.Words.{wordWidth}
 use Rattle.network_path.specs.Layout.{fieldAt, nodeAt, nodesOf}
 use Rattle.network_draft.specs.declared.store.Summary.{Summary}

@@ -12,8 +12,7 @@ use Rattle.model.specs.Result.{Result, ok, refused}
 use Rattle.model.specs.Text.{Trit}
 use Rattle.model.specs.Network.{Target, read, write, lenOf, totalBits, tabulate, steers, heldOr}
 use Rattle.model.specs.NetworkText.{Draft, isHeld, isTarget}
-use Rattle.model.proofs.LineForms.{GoodForm}
-use Rattle.model.proofs.Reading.{Sound}
+use Rattle.model.specs.Drafted.{GoodForm, Sound}
 use Rattle.network_words.specs.Words.{wordWidth, wordBit, tritsOf}
 use Rattle.network_path.specs.Layout.{nodeAt, nodesOf, nodeFields, nodeNumbers}
 use Rattle.network_draft.specs.Store.{Small}

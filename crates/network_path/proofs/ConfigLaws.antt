@@ -13,8 +13,8 @@ use lib.ListN.{length, getD, getElem?, List·getD-eq-default}
 use Rattle.model.specs.Network.{Node, segment, multiplexer, at, noNode, hasShadow, lenOf, addressBits, tabulate}
 use Rattle.model.specs.Path.{Walk, bitOf, valueOf, address, pick, walkFrom, nodeOf}
 use Rattle.model.specs.Text.{Trit}
+use Rattle.model.specs.Accepted.{GoodNode, GoodMux}
 use Rattle.model.proofs.Lists.{length-tabulate, getD-tabulate, true-false}
-use Rattle.model.proofs.WellFormed.{GoodNode, GoodMux}
 use Rattle.network_words.specs.Words.{wordWidth, tritAt, tritsOf}
 use Rattle.network_path.specs.Layout.{nodeAt, nodesOf, configOf, lookIn, SafeNode, Safe}
 use Rattle.network_path.specs.Answers.{stepTo, stepOf, told, FindsPath}

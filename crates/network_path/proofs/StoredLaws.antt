@@ -7,9 +7,9 @@ use native.Mathlib.Omega.{arith}
 use lib.ListN.{length, getD, take}
 use Rattle.model.specs.Network.{Node, Network, noNode}
 use Rattle.model.specs.Path.{path, stop, bitOf, walk, walkFrom, nodeOf, pathOf}
+use Rattle.model.specs.Accepted.{GoodNode}
 use Rattle.model.proofs.Lists.{length-tabulate}
 use Rattle.model.proofs.Walking.{valid-by}
-use Rattle.model.proofs.WellFormed.{GoodNode}
 use Rattle.network_path.specs.Layout.{nodeAt, nodesOf, configOf, scanPath}
 use Rattle.network_path.specs.Stored.{Stored, PathFound}
 use Rattle.network_path.specs.Answers.{Walkable, told, WalkHeld, FindsPath}

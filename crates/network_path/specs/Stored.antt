@@ -7,7 +7,7 @@ use lib.ListN.{take}
 use Rattle.model.specs.Limits.{maxNodes}
 use Rattle.model.specs.Network.{Network, Config}
 use Rattle.model.specs.Path.{path, walk, pathIn, ValidConfig}
-use Rattle.model.proofs.WellFormed.{WellFormed}
+use Rattle.model.specs.Accepted.{WellFormed}
 use Rattle.network_path.specs.Layout.{nodesOf, scanPath}
 use Rattle.network_path.specs.Answers.{HoldsPath}
 

@@ -12,8 +12,9 @@ use Rattle.model.specs.Result.{ok, refused}
 use Rattle.model.specs.Text.{Bytes}
 use Rattle.model.specs.Network.{Node, at, noNode, isSegment, lenOf, tabulate}
 use Rattle.model.specs.NetworkText.{readNetwork}
+use Rattle.model.specs.Accepted.{Accepted}
 use Rattle.model.proofs.Lists.{true-false, length-tabulate}
-use Rattle.model.proofs.Accepted.{Accepted, accepted}
+use Rattle.model.proofs.Accepted.{accepted}
 use Rattle.network_words.specs.Words.{wordWidth}
 use Rattle.network_path.specs.Layout.{nodeAt, nodesOf}
 use Rattle.network_path.proofs.ConfigLaws.{good-most}

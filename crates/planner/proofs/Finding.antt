@@ -10,7 +10,7 @@ use Rattle.model.specs.Network.{Network, steeringBits}
 use Rattle.model.specs.Path.{bitOf}
 use Rattle.model.specs.Mark.{targetsFrom}
 use Rattle.model.specs.Planner.{orNext, searchFrom, leastFrom, planFor}
-use Rattle.model.proofs.Accepted.{Accepted}
+use Rattle.model.specs.Accepted.{Accepted}
 use Rattle.model.proofs.Lists.{some-same}
 use Rattle.plan_text.proofs.Writing.{over-length}
 use Rattle.planner_theory.specs.Search.{Sys, planIn, planFrom, planUpTo}

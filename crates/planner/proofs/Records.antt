@@ -8,7 +8,7 @@ use native.Mathlib.Omega.{arith}
 use lib.ListN.{length, getD}
 use Rattle.model.specs.Network.{Node, at, noNode, lenOf, steeringBits}
 use Rattle.model.specs.Path.{bitOf}
-use Rattle.model.proofs.Accepted.{Accepted}
+use Rattle.model.specs.Accepted.{Accepted}
 use Rattle.model.proofs.Lists.{length-tabulate}
 use Rattle.network_words.specs.Words.{wordWidth}
 use Rattle.network_path.specs.Layout.{nodeAt, nodesOf, configOf, lookIn}

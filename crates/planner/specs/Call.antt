@@ -7,7 +7,7 @@ use lib.ListN.{length, replicate}
 use Rattle.model.specs.Limits.{searchSize}
 use Rattle.model.specs.Result.{ok}
 use Rattle.model.specs.Calls.{writeOver, written, countOf, searchEntries, planned}
-use Rattle.model.proofs.Accepted.{Accepted}
+use Rattle.model.specs.Accepted.{Accepted}
 use Rattle.network_reader.specs.declared.reader.Network.{Network}
 use Rattle.network_reader.specs.Reads.{recordedNetwork, RecordComplete}
 use Rattle.planner_text.specs.declared.Planned.{Planned}

@@ -13,7 +13,7 @@ use lib.Dec.{eqb, ltb}
 use lib.ListN.{getD, set, replicate, length-replicate}
 use lib.Seq.{getD-set-same, getD-set-other}
 use Rattle.model.specs.Network.{Network}
-use Rattle.model.proofs.Accepted.{Accepted}
+use Rattle.model.specs.Accepted.{Accepted}
 use Rattle.model.proofs.Lists.{true-false, zero-at, and-false-right}
 use Rattle.network_words.specs.Words.{wordBit}
 use Rattle.network_words.proofs.WordLaws.{zero-bit}

@@ -10,8 +10,8 @@ use lib.ListN.{length}
 use borrow.Author.Tests.{eqb-false}
 use Rattle.model.specs.Network.{Network, steeringBits}
 use Rattle.model.specs.Path.{stop}
+use Rattle.model.specs.Accepted.{Accepted}
 use Rattle.model.proofs.Lists.{eqb-is}
-use Rattle.model.proofs.Accepted.{Accepted}
 use Rattle.network_path.specs.Answers.{told, WalkHeld}
 use Rattle.network_path.specs.declared.walk.Walked.{Walked}
 use Rattle.network_path.specs.declared.walk.Walked.the-variants.{Path, Stop as Stopped}

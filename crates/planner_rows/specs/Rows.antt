@@ -9,7 +9,7 @@ use lib.ListN.{length, getD, take}
 use Rattle.model.specs.Limits.{maxSettings}
 use Rattle.model.specs.Network.{Network, steeringBits}
 use Rattle.model.specs.Path.{ScanPath, path, pathLength}
-use Rattle.model.proofs.Accepted.{Accepted}
+use Rattle.model.specs.Accepted.{Accepted}
 use Rattle.network_path.specs.Layout.{scanPath}
 use Rattle.network_path.specs.Answers.{HoldsPath}
 use Rattle.planner_theory.specs.Settings.{walkAt, order, baseOf}

@@ -7,7 +7,7 @@ use lib.ListN.{length, getD, take}
 use Rattle.model.specs.Limits.{maxNodes, maxSettings}
 use Rattle.model.specs.Network.{Network, steers, steeringBits}
 use Rattle.model.specs.Path.{ScanPath, bitValue, on}
-use Rattle.model.proofs.Accepted.{Accepted}
+use Rattle.model.specs.Accepted.{Accepted}
 use Rattle.network_words.specs.Words.{wordWidth, wordBit}
 use Rattle.network_path.specs.Layout.{scanPath, nodeNumbers}
 use Rattle.network_path.specs.Answers.{told, WalkHeld}

@@ -14,7 +14,7 @@ use Rattle.model.specs.Path.{ScanPath, path, stop, pathOf, pathLength}
 use Rattle.model.specs.Plan.{Plan}
 use Rattle.model.specs.PlanText.{writePlan}
 use Rattle.model.specs.Calls.{writeOver}
-use Rattle.model.proofs.Accepted.{Accepted}
+use Rattle.model.specs.Accepted.{Accepted}
 use Rattle.model.proofs.PlanTexts.{length-line}
 use Rattle.network_path.specs.Layout.{scanPath}
 use Rattle.network_path.specs.Answers.{HoldsPath}

@@ -11,7 +11,7 @@ use lib.Bits.{or-lt}
 use Rattle.model.specs.Network.{Network, steeringBits}
 use Rattle.model.specs.Path.{Walk, path, stop, pathLength}
 use Rattle.model.specs.Planner.{orNext}
-use Rattle.model.proofs.Accepted.{Accepted}
+use Rattle.model.specs.Accepted.{Accepted}
 use Rattle.model.proofs.Lists.{none-some, some-same}
 use Rattle.planner_theory.specs.Search.{Sys, ifGoal, planIn, planFrom, planUpTo}
 use Rattle.planner_theory.specs.Moves.{count, gain, land, reached, goes, sysOf, decode, StepOf, Follows}

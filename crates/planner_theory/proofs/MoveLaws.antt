@@ -12,11 +12,10 @@ use Rattle.model.specs.Text.{Trit}
 use Rattle.model.specs.Network.{Network, steeringBits}
 use Rattle.model.specs.Path.{ScanPath, Walk, path, stop, walkFrom, nodeOf, pathLength, pathOf, on}
 use Rattle.model.specs.Planner.{fillings}
-use Rattle.model.proofs.Accepted.{Accepted}
+use Rattle.model.specs.Accepted.{Accepted, WellFormed}
 use Rattle.model.proofs.PathBound.{falls-bound}
 use Rattle.model.proofs.FillingList.{fill-out}
 use Rattle.model.proofs.Walking.{Falls, walk-falls}
-use Rattle.model.proofs.WellFormed.{WellFormed}
 use Rattle.planner_theory.specs.Moves.{maskOf, onPath, choicesOn, targetsOn, count, gain, land}
 use Rattle.planner_theory.proofs.Landing.{landNum}
 use Rattle.planner_theory.specs.Settings.{Look, settingOf, lookUp, walkAt, order, baseOf, choiceOf, loaded, settingAfter}

@@ -19,7 +19,7 @@ use Rattle.model.specs.Path.{ScanPath, Walk, path, stop, bitOf, walk, pathOf, o
 use Rattle.model.specs.Plan.{Plan, OnSome, Done}
 use Rattle.model.specs.Mark.{Got, targetsFrom}
 use Rattle.model.specs.Planner.{fillings, orNext, firstOf, startingWith, ifDone, ifValid, searchFrom, leastFrom, planFor}
-use Rattle.model.proofs.Accepted.{Accepted}
+use Rattle.model.specs.Accepted.{Accepted}
 use Rattle.model.proofs.Filling.{length-csu}
 use Rattle.model.proofs.Lists.{true-false, at-mapFrom, not-ok}
 use Rattle.model.proofs.FillingList.{fill-out}

@@ -11,8 +11,8 @@ use native.Mathlib.Decide.{decLt}
 use lib.Dec.{eqb, leb}
 use lib.ListN.{length, getD, List·getD-eq-default}
 use Rattle.model.specs.Network.{Node, segment, multiplexer, at, noNode, lenOf, hasShadow, steersAt, steers, steeringIn, steeringFrom, steeringBits}
+use Rattle.model.specs.Accepted.{GoodNode}
 use Rattle.model.proofs.Lists.{eqb-is, true-false, and-parts}
-use Rattle.model.proofs.WellFormed.{GoodNode}
 use Rattle.planner_theory.specs.Settings.{Distinct, distinct-nil, distinct-cons}
 
 -- ---- no element twice

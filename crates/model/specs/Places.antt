@@ -1,0 +1,118 @@
+-- The table of refusals: a row for each number, with the places that it can have (document 01, "Numbers and places").
+-- Assumes nothing.
+use mathlib.Core.Path.{_≡_}
+use mathlib.Core.Option.{some}
+use mathlib.Core.Logic.{_⊎_}
+use mathlib.Core.List.{List, []}
+use Prim.Native.Nat.{ℕ, _≤_, _<_}
+use lib.ListN.{length}
+use Rattle.model.specs.Result.{Result, ok, refused}
+use Rattle.model.specs.Text.{Bytes, lineEnd, parts}
+use Rattle.model.specs.Network.{multiplexer, Network, at, steeringBits}
+use Rattle.model.specs.Plan.{Plan, ValidPlan}
+use Rattle.model.specs.Tap.{Clock}
+use Rattle.model.specs.NetworkText.{node, lineOf, readNetwork}
+use Rattle.model.specs.Calls.{clocksOf}
+
+-- ---- places
+
+-- "last line number + 1"; it is the number of an unended last line
+abbrev pub behindLines : Bytes → ℕ
+behindLines t = length (parts lineEnd t)
+
+-- the number of a line that byte 10 ends
+abbrev pub IsLine : Bytes → ℕ → Type 0
+IsLine t n = (1 ≤ n) × (n < behindLines t)
+
+-- "mux's line", which is "mux's number"
+pub record IsMux (t : Bytes) (n : ℕ) : Type 0 where
+  pub seg : ℕ
+  pub bit : ℕ
+  pub inputs : List ℕ
+  pub says : lineOf (at (parts lineEnd t) n []) ≡ some (node (multiplexer seg bit inputs))
+
+-- the number of an operation: of a line of the plan, at most 16
+abbrev pub IsOperation : Bytes → ℕ → Type 0
+IsOperation p k = IsLine p k × (k ≤ 16)
+
+-- the number of a target: "counted from 1 in line order", at most 4
+pub record IsTargetNumber (n : Bytes) (t : ℕ) : Type 0 where
+  pub net : Network
+  pub reads : readNetwork n ≡ ok net
+  pub from-1 : 1 ≤ t
+  pub counted : t ≤ length (net .targets)
+  pub at-most-4 : t ≤ 4
+
+-- ---- rows: which numbers with which places
+
+abbrev pub Rows : Type 1
+Rows = ℕ → ℕ → Type 0
+
+-- the rows of both
+infixr 2 _or_
+abbrev pub _or_ : Rows → Rows → Rows
+(first or second) number place = first number place ⊎ second number place
+
+-- "a result or one listed number and place"
+abbrev pub Listed : {A : Type 0} → Rows → Result A → Type 0
+Listed rows (ok a) = Unit {0}
+Listed rows (refused number place) = rows number place
+
+-- the network's refusals
+pub data NetworkRefusal (t : Bytes) : ℕ → ℕ → Type 0 where
+  -- "1, line | word, field count or field form wrong; last line unended"
+  wrong-form : {n : ℕ} → IsLine t n → NetworkRefusal t 1 n
+  unended : NetworkRefusal t 1 (behindLines t)
+  -- "2, line | FROM, input, LEN or N outside its bounds"
+  out-of-bounds : {n : ℕ} → IsLine t n → NetworkRefusal t 2 n
+  -- "3, line | node 129, or over 4,000 bits; place 0: text too long"
+  too-large : {n : ℕ} → IsLine t n → NetworkRefusal t 3 n
+  too-long : 16384 < length t → NetworkRefusal t 3 0
+  -- "4, line | word out of order; no `out` (last line number + 1)"
+  out-of-order : {n : ℕ} → IsLine t n → NetworkRefusal t 4 n
+  out-missing : NetworkRefusal t 4 (behindLines t)
+  -- "5, mux's line | SEG not a segment with shadow, or an address bit beyond it; lowest such line"
+  wrong-address : {n : ℕ} → IsMux t n → NetworkRefusal t 5 n
+  -- "6, line | `hold`, `write`, `read`: not a segment, BITS not LEN long, or same word and segment again"
+  wrong-segment : {n : ℕ} → IsLine t n → NetworkRefusal t 6 n
+  -- "7, line | target is a steering segment"
+  target-steers : {n : ℕ} → IsLine t n → NetworkRefusal t 7 n
+  -- "8, line | fifth target"
+  fifth-target : {n : ℕ} → IsLine t n → NetworkRefusal t 8 n
+  -- "9, mux's number | start not valid; first multiplexer met"
+  start-stops : {n : ℕ} → IsMux t n → NetworkRefusal t 9 n
+
+-- the planner's own
+pub data PlannerRefusal (n : Bytes) (search plan : List ℕ) : ℕ → ℕ → Type 0 where
+  -- "10, count | planner: over 6 steering bits"
+  over-6 : {net : Network} → readNetwork n ≡ ok net → 6 < length (steeringBits (net .nodes))
+      → PlannerRefusal n search plan 10 (length (steeringBits (net .nodes)))
+  -- "11, 0 | planner: no valid plan of at most 16 operations"
+  none-valid : {net : Network} → readNetwork n ≡ ok net → ((other : Plan) → ValidPlan net other → 16 < length other)
+      → PlannerRefusal n search plan 11 0
+  -- "12, 11664 | search space below 11,664 entries of 16 bits"
+  short-search : length search < 11664 → PlannerRefusal n search plan 12 11664
+  -- "13, bytes needed | buffer for plan .. too short"
+  short-plan : {needed : ℕ} → length plan < needed → needed ≤ 64080 → PlannerRefusal n search plan 13 needed
+
+-- the clock writer's own
+pub data ClockRefusal (p : Bytes) (tms tdi : List ℕ) : ℕ → ℕ → Type 0 where
+  -- "13, bytes needed | buffer for .. TMS or TDI too short": a byte for each clock, at most 64,080
+  short-row : {clocks : List Clock} → clocksOf p ≡ ok clocks → (length tms < length clocks) ⊎ (length tdi < length clocks) → length clocks ≤ 64080
+      → ClockRefusal p tms tdi 13 (length clocks)
+
+-- a plan text's refusals
+pub data PlanTextRefusal (p : Bytes) : ℕ → ℕ → Type 0 where
+  -- "14, line | plan: line form wrong, or line 17; place 0: text too long"
+  plan-line : {n : ℕ} → IsLine p n → n ≤ 17 → PlanTextRefusal p 14 n
+  plan-unended : behindLines p ≤ 17 → PlanTextRefusal p 14 (behindLines p)
+  plan-too-long : 64080 < length p → PlanTextRefusal p 14 0
+
+-- the marker's own
+pub data MarkerRefusal (n p : Bytes) : ℕ → ℕ → Type 0 where
+  -- "15, operation | count of bits is not the path length"
+  not-path-length : {k : ℕ} → IsOperation p k → MarkerRefusal n p 15 k
+  -- "16, operation | configuration after it not valid"
+  not-valid : {k : ℕ} → IsOperation p k → MarkerRefusal n p 16 k
+  -- "17, target | not accessed, or not holding its bits; lowest target"
+  not-done : {t : ℕ} → IsTargetNumber n t → MarkerRefusal n p 17 t
