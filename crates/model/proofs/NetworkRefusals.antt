@@ -19,10 +19,10 @@ use Rattle.model.specs.Places.{behindLines, IsLine, IsMux, NetworkRefusa
 use Rattle.model.specs.Result.{Result, refused}
 use Rattle.model.specs.Text.{Bytes, lineEnd, parts, Trit}
 use Rattle.model.proofs.Accepted.{draft-formed}
+use Rattle.model.proofs.Ends.{Ends, gives, refuses, listed, ends-if, ends-then, line-at, is-line}
 use Rattle.model.proofs.Lists.{true-false, none-some, some-same}
 use Rattle.model.proofs.PlanTexts.{parts-more}
 use Rattle.model.proofs.Reading.{each-more, has-none, sound-line, sound-start}
-use Rattle.model.proofs.Refusals.{Ends, gives, refuses, listed, ends-if, ends-then, line-at, is-line}
 use Rattle.model.proofs.Walking.{WalkFalls, walk-falls}
 
 -- ---- where multiplexers are

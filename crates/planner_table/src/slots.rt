@@ -1,7 +1,7 @@
 // The settings of a slot that have a state, one after the other. Most slots have few, so runs of settings are looked at together.
 ghost use mathlib.Core.Path.{_≡_};
-ghost use Prim.Native.Nat.{ℕ, _+_, _≤_, _<_};
-ghost use lib.ListN.{length, getD};
+ghost use Prim.Native.Nat.{_+_, _≤_, _<_};
+ghost use lib.ListN.{length};
 ghost use Rattle.model.specs.Limits.{searchSize};
 ghost use Rattle.planner_table.specs.Table.{NoneFrom, Skipped};
 
