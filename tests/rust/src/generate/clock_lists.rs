@@ -51,7 +51,7 @@ impl ClockList {
 pub fn clock_list(seed: u64) -> ClockList {
     let random = &mut Random::new(seed);
     loop {
-        let list = draw_list(random, seed % 2 == 0);
+        let list = draw_list(random, seed % 2 == 1);
         let path = walk(&list.network, &list.held);
         let wanted = match seed % 8 {
             0 => !list.play(|_, _| {}).0.setting_is_valid(),
@@ -66,15 +66,15 @@ pub fn clock_list(seed: u64) -> ClockList {
     }
 }
 
-/// A list of 10 to 40 clocks.
-fn draw_list(random: &mut Random, from_start: bool) -> ClockList {
+/// A list of 10 to 40 clocks, from the start or from anywhere.
+fn draw_list(random: &mut Random, anywhere: bool) -> ClockList {
     let (text, network) = draw_network(random);
     let mut held = network.start.clone();
     for bit in held.iter_mut().flatten() {
-        *bit = bit.filter(|_| from_start).or_else(|| Some(random.bit()));
+        *bit = bit.filter(|_| !anywhere).or_else(|| Some(random.bit()));
     }
     let shift = any_shift(&network, &mut || random.bit());
-    let first = if from_start { State::RunTestIdle } else { *random.pick(&STATES) };
+    let first = if anywhere { *random.pick(&STATES) } else { State::RunTestIdle };
     let (mut clocks, mut fed) = (Vec::new(), Vec::new());
     let mut state = first;
     for _ in 0..random.between(10, 40) {
