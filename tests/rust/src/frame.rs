@@ -24,16 +24,27 @@ impl<'n> Frame<'n> {
         for bit in held.iter_mut().flatten() {
             *bit = Some(bit.unwrap_or_else(&mut *any));
         }
-        let first = |node: &Node| match node {
-            Node::Segment { len, shadow: true, .. } => (0..*len).map(|_| Some(any())).collect(),
-            _ => Vec::new(),
-        };
-        let shift = network.nodes.iter().map(first).collect();
-        Frame { network, state: State::RunTestIdle, held, shift }
+        let shift = any_shift(network, any);
+        Frame::resumed(network, State::RunTestIdle, held, shift)
+    }
+
+    /// A frame as other clocks have left it: in any state, with any bits.
+    pub fn resumed(
+        network: &'n Network,
+        state: State,
+        held: Configuration,
+        shift: Configuration,
+    ) -> Frame<'n> {
+        Frame { network, state, held, shift }
     }
 
     pub fn state(&self) -> State {
         self.state
+    }
+
+    /// The shift bits of segments with shadow; empty for the others.
+    pub fn shift(&self) -> &Configuration {
+        &self.shift
     }
 
     /// "A setting is the frame's held bits, all of them known".
@@ -113,4 +124,13 @@ impl<'n> Frame<'n> {
             self.held[segment - 1] = self.shift_bits(segment).clone();
         }
     }
+}
+
+/// "shift bits, first any", for the segments with shadow.
+pub fn any_shift(network: &Network, any: &mut dyn FnMut() -> bool) -> Configuration {
+    let first = |node: &Node| match node {
+        Node::Segment { len, shadow: true, .. } => (0..*len).map(|_| Some(any())).collect(),
+        _ => Vec::new(),
+    };
+    network.nodes.iter().map(first).collect()
 }

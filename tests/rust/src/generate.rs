@@ -1,7 +1,8 @@
-//! Networks and plans made from a seed. The same seed gives the same texts.
+//! Networks, plans and lists of clocks made from a seed. The same seed gives the same texts.
 
 pub mod base;
 pub mod cases;
+pub mod clock_lists;
 pub mod damage;
 pub mod draft;
 pub mod edges;

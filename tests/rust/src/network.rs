@@ -58,6 +58,11 @@ impl Network {
         segment_len(&self.nodes, number).unwrap_or(0)
     }
 
+    /// Whether node `number` is a plain segment.
+    pub fn is_plain(&self, number: usize) -> bool {
+        matches!(self.nodes[number - 1], Node::Segment { shadow: false, .. })
+    }
+
     /// The bits of all segments together.
     pub fn bits(&self) -> usize {
         (1..=self.nodes.len()).map(|number| self.len(number)).sum()

@@ -32,6 +32,20 @@ fn sixteen_states() {
     }
 }
 
+/// What the program `controller_table` prints of the table in the crate of the clock writer: each
+/// state's number, then the next one's for TMS 0 and for TMS 1.
+const PRINTED: &str = include_str!("../../../crates/controller_table/stdout");
+
+#[test]
+fn printed_table() {
+    let number = |state| STATES.iter().position(|&other| other == state).expect("one of sixteen");
+    let line = |state| {
+        let [on_zero, on_one] = [false, true].map(|tms| number(next(state, tms)));
+        format!("state\t{}\t{on_zero}\t{on_one}\n", number(state))
+    };
+    assert_eq!(PRINTED, STATES.map(line).concat());
+}
+
 /// Five clocks with TMS 1 reach Test-Logic-Reset from every state.
 #[test]
 fn five_ones_reset() {
