@@ -120,7 +120,7 @@ fn every_crate_in_its_documents() {
         let name = path.file_name().and_then(|name| name.to_str()).expect("a name").to_string();
         assert!(listing.lines().any(|line| line.starts_with(&format!("{name}:"))), "{name}");
         assert!(
-            readme.contains(&format!("`{name}`")) || readme.contains(&format!("/{name}`")),
+            readme.contains(&format!("`{name}`")) || readme.contains(&format!("crates/{name}")),
             "{name}"
         );
         assert!(architecture.contains(&name), "docs/ARCHITECTURE.md has no {name}");
