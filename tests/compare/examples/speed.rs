@@ -209,8 +209,8 @@ fn plans() {
     }
 }
 
-/// A thousand networks that are drawn.
-fn drawn(seed: u64, draw: impl Fn(&mut Random) -> Draft) -> Vec<Vec<u8>> {
+/// A thousand random networks.
+fn thousand(seed: u64, draw: impl Fn(&mut Random) -> Draft) -> Vec<Vec<u8>> {
     let random = &mut Random::new(seed);
     (0..1_000).map(|_| draw(random).text()).collect()
 }
@@ -218,12 +218,12 @@ fn drawn(seed: u64, draw: impl Fn(&mut Random) -> Draft) -> Vec<Vec<u8>> {
 /// Whole sets of small networks, many of them refused.
 fn sets_of_plans() {
     for (name, networks) in [
-        ("plan, 1,000 tiny networks", drawn(1, |random| tiny(random, 7))),
+        ("plan, 1,000 tiny networks", thousand(1, |random| tiny(random, 7))),
         (
             "plan, 1,000 trees of SIBs",
-            drawn(2, |random| sib_tree(random, Size { depth: 6, sibs: 6, len: 32 })),
+            thousand(2, |random| sib_tree(random, Size { depth: 6, sibs: 6, len: 32 })),
         ),
-        ("plan, 1,000 trees of multiplexers", drawn(3, |random| maze(random, 3, 4))),
+        ("plan, 1,000 trees of multiplexers", thousand(3, |random| maze(random, 3, 4))),
     ] {
         let [mut search, mut plain_search] = [(); 2].map(|_| vec![0; SEARCH_ENTRIES]);
         let [mut bytes, mut plain_bytes] = [(); 2].map(|_| vec![0; MAX_PLAN_BYTES]);

@@ -64,7 +64,7 @@ impl Counts {
     }
 }
 
-/// Plan texts of all kinds with lengths drawn around what is needed, and with all pairs of lengths.
+/// Plan texts of all kinds with random lengths around what is needed, and with all pairs of lengths.
 #[test]
 fn generated_plans() {
     let mut counts = Counts::default();

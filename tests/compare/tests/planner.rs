@@ -21,7 +21,7 @@ use penthluk_reference::limits::{
 };
 use plan_counts::{Counts, ALL_LENGTHS};
 
-/// Plans so many networks that are drawn.
+/// Plans so many random networks.
 #[track_caller]
 fn plan_many(seed: u64, networks: usize, draw: impl Fn(&mut Random) -> Draft) -> Counts {
     let random = &mut Random::new(seed);

@@ -1,7 +1,7 @@
-//! Prints one antt module that says what the definitions of the crate `model` must give for drawn
-//! texts: `definition_rows SEED COUNT MODE`, with MODE `texts` (read, mark and clock programs) or
-//! `plans` (plan program, on networks that are small enough for the definition to be computed).
-//! The script tests/definitions has the module checked.
+//! Prints one antt module that says what the definitions of the crate `model` must give for
+//! generated texts: `definition_rows SEED COUNT MODE`, with MODE `texts` (read, mark and clock
+//! programs) or `plans` (plan program, on networks that are small enough for the definition to be
+//! computed). The script tests/definitions has the module checked.
 
 use penthluk_reference::generate::cases::case;
 use penthluk_reference::programs;
@@ -20,12 +20,12 @@ fn main() {
         std::process::exit(2);
     };
     let (seed, count) = (seed.parse().expect("SEED"), count.parse().expect("COUNT"));
-    let drawn = (seed..).flat_map(|seed| rows(seed, mode == "plans"));
-    let rows: Vec<String> = drawn.take(count).collect();
+    let generated = (seed..).flat_map(|seed| rows(seed, mode == "plans"));
+    let rows: Vec<String> = generated.take(count).collect();
     print!("{}{}\n    ∷ []\n{}", HEAD, rows.join("\n    ∷ "), TAIL);
 }
 
-/// The rows of one drawn case; none where it is too large or holds a byte that no text literal has.
+/// The rows of one generated case; none where it is too large or holds a byte that no text literal has.
 fn rows(seed: u64, plans: bool) -> Vec<String> {
     let case = case(seed);
     if case.network.len() > MAX_NETWORK || case.plan.len() > MAX_PLAN {

@@ -35,7 +35,7 @@ fn check_planned(network_text: &[u8], random: &mut Random) -> Option<Pass> {
 }
 
 #[test]
-fn drawn_networks() {
+fn generated_networks() {
     let random = &mut Random::new(101);
     let mut plans_of_length = [0; MAX_OPERATIONS + 1];
     let mut gots = 0;

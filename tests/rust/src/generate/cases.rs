@@ -136,7 +136,7 @@ pub fn draw_plan_text(random: &mut Random, network_text: &[u8]) -> Vec<u8> {
     }
 }
 
-/// Operations for a network: the planner's, changed in some way, or drawn at random.
+/// Operations for a network: the planner's, changed in some way, or random ones.
 pub fn draw_plan(random: &mut Random, network: &Network) -> Vec<Vec<bool>> {
     let operations = random.below(MAX_OPERATIONS + 1);
     let Some(plan) = planned(network).filter(|_| random.percent(75)) else {

@@ -66,7 +66,7 @@ impl Damaged {
         self.lines.iter().position(|line| line.is_out).unwrap_or(self.lines.len())
     }
 
-    /// A sound line with one of these words, drawn at random.
+    /// A random sound line with one of these words.
     pub fn draw_line(&self, random: &mut Random, words: &[&str]) -> Option<usize> {
         let fits = |index: &usize| {
             let line = &self.lines[*index];

@@ -98,7 +98,7 @@ pub(super) fn gray_number(code: &[usize]) -> usize {
     number
 }
 
-/// A tree with leaves drawn at random from the segments, most often one that steers.
+/// A tree with random segments as leaves, most often one that steers.
 pub fn maze(random: &mut Random, depth: usize, len: usize) -> Draft {
     let mut draft = Draft::default();
     for _ in 0..random.between(1, 3) {

@@ -26,7 +26,7 @@ use Change::*;
 
 pub const CHANGES: [Change; 6] = [Longer, Shorter, Bit, Address, Cut, BadLast];
 
-/// A plan with this change, drawn at random, and its refusal where the change alone settles it.
+/// A plan with this change at random, and its refusal where the change alone settles it.
 /// `None` if the plan does not allow the change.
 pub fn near(
     random: &mut Random,

@@ -1,4 +1,4 @@
-//! Plans for a network: drawn at random, or made from the planner's.
+//! Plans for a network: random ones, and ones made from the planner's.
 
 use super::random::Random;
 use crate::limits::{MAX_OPERATIONS, MAX_PLAN_BYTES, SEARCH_ENTRIES};
@@ -16,7 +16,7 @@ pub fn planned(network: &Network) -> Option<Vec<Vec<bool>>> {
     parse_plan(&plan[..bytes]).ok()
 }
 
-/// Operations drawn at random, up to this many. Most keep the configuration valid where a few
+/// Random operations, up to this many. Most keep the configuration valid where a few
 /// draws find a way. They shift the bits of write targets with the given chance.
 pub fn wander(
     random: &mut Random,
