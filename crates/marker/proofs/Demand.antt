@@ -35,10 +35,10 @@ pub passes-exactly : PassesExactly
 passes-exactly n p m e = (there, back)
   where
     there : (lines clocks : ℕ) × (m .verdict ≡ Passed lines clocks) → AcceptedAndValid n p
-    there (lines, clocks, q) = marker n p .0 (_, sym e ∙ ap (λ (v : Verdict). verdictOf v (gotsOf (m .gots))) q)
+    there (lines, clocks, q) = marker n p .0 (_, sym (e .result) ∙ ap (λ (v : Verdict). verdictOf v (gotsOf (m .gots))) q)
 
     back : AcceptedAndValid n p → (lines clocks : ℕ) × (m .verdict ≡ Passed lines clocks)
-    back a = let b = marker n p .1 a in verdict-pass (m .verdict) (gotsOf (m .gots)) (b .0) (e ∙ b .1)
+    back a = let b = marker n p .1 a in verdict-pass (m .verdict) (gotsOf (m .gots)) (b .0) (e .result ∙ b .1)
 
 -- the answer of a call that writes
 answer-clocks : (w : Written) (count : ℕ) → writtenAnswer w ≡ ok count → w ≡ Clocks count
@@ -74,7 +74,7 @@ pass-borne-out n p m lines count e q tms tdi w tms′ tdi′ wrote a b = (
     pass = record { operations = lines; clocks = count; gots = gotsOf (m .gots) }
 
     is : mark n p ≡ ok pass
-    is = sym e ∙ ap (λ (x : Verdict). verdictOf x (gotsOf (m .gots))) q
+    is = sym (e .result) ∙ ap (λ (x : Verdict). verdictOf x (gotsOf (m .gots))) q
 
     v : AcceptedAndValid n p
     v = marker n p .0 (pass, is)

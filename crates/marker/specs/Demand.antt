@@ -14,28 +14,14 @@ use Rattle.model.specs.Tap.{Clock, bitByte}
 use Rattle.model.specs.Frame.{Registers, Captures, Holds}
 use Rattle.model.specs.NetworkText.{readNetwork}
 use Rattle.model.specs.PlanText.{readPlan}
-use Rattle.model.specs.Mark.{mark}
-use Rattle.model.specs.Calls.{writeClocks}
 use Rattle.model.specs.Played.{UpheldBy}
 use Rattle.model.specs.Demands.{AcceptedAndValid}
 use Rattle.clock_writer.specs.declared.Written.{Written}
 use Rattle.clock_writer.specs.declared.Written.the-variants.{Clocks}
-use Rattle.clock_writer.specs.Clocks.{writtenAnswer}
+use Rattle.clock_writer.specs.Clocks.{WroteClocks}
 use Rattle.marker.specs.declared.targets.Mark.{Mark}
 use Rattle.marker.specs.declared.targets.Verdict.the-variants.{Pass}
-use Rattle.marker.specs.Marks.{gotsOf, markOf}
-
--- ---- the contracts of the two calls
-
--- `mark` returned m for two texts
-abbrev pub MarkReturned : Bytes → Bytes → Mark → Type 0
-MarkReturned n p m = markOf m ≡ mark n p
-
--- `write_clocks` returned w for a plan text, and left the buffers tms and tdi as tms′ and tdi′
-pub record WroteClocks (p : Bytes) (tms tdi : List ℕ) (w : Written) (tms′ tdi′ : List ℕ) : Type 0 where
-  pub result : writtenAnswer w ≡ writeClocks p tms tdi .result
-  pub tms-left : tms′ ≡ writeClocks p tms tdi .tms
-  pub tdi-left : tdi′ ≡ writeClocks p tms tdi .tdi
+use Rattle.marker.specs.Marks.{gotsOf, MarkReturned}
 
 -- ---- "The marker passes two texts exactly when the network is accepted and the plan (at most 16 operations) is valid for it."
 

@@ -40,7 +40,7 @@ plans-exactly n net search plan a search′ plan′ made accepted few enough roo
     written count p = record {
       plan = p .plan;
       reads = ap (λ (b : List ℕ). readPlan (take count b)) (made .plan-left) ∙ p .reads;
-      passes = λ m e. verdict-pass (m .verdict) (gotsOf (m .gots)) (p .passes .0) (e ∙ ap (λ (b : List ℕ). mark n (take count b)) (made .plan-left) ∙ p .passes .1);
+      passes = λ m e. verdict-pass (m .verdict) (gotsOf (m .gots)) (p .passes .0) (e .result ∙ ap (λ (b : List ℕ). mark n (take count b)) (made .plan-left) ∙ p .passes .1);
       fewest = p .named .fewest;
       named = p .named;
     }

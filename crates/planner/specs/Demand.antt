@@ -13,19 +13,12 @@ use Rattle.model.specs.Network.{Network, steeringBits}
 use Rattle.model.specs.Plan.{Plan, ValidPlan, Named}
 use Rattle.model.specs.NetworkText.{readNetwork}
 use Rattle.model.specs.PlanText.{readPlan}
-use Rattle.model.specs.Calls.{makePlan}
 use Rattle.marker.specs.declared.targets.Mark.{Mark}
 use Rattle.marker.specs.declared.targets.Verdict.the-variants.{Pass}
-use Rattle.marker.specs.Demand.{MarkReturned}
+use Rattle.marker.specs.Marks.{MarkReturned}
 use Rattle.planner_text.specs.declared.Planned.{Planned}
 use Rattle.planner_text.specs.declared.Planned.the-variants.{Written, Refused}
-use Rattle.planner_text.specs.Writing.{plannedAnswer}
-
--- the contract: `make_plan` returned a, and left the search space as search′ and the plan buffer as plan′
-pub record MadePlan (n : Bytes) (search plan : List ℕ) (a : Planned) (search′ plan′ : List ℕ) : Type 0 where
-  pub result : plannedAnswer a ≡ makePlan n search plan .result
-  pub search-left : search′ ≡ makePlan n search plan .search
-  pub plan-left : plan′ ≡ makePlan n search plan .plan
+use Rattle.planner.specs.Call.{MadePlan}
 
 -- "it writes a plan that passes, and no valid plan has fewer operations"; it is the plan that document 01 names
 pub record PlanWritten (n : Bytes) (net : Network) (text : Bytes) : Type 0 where
