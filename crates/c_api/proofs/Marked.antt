@@ -14,7 +14,7 @@ use Rattle.marker.specs.declared.targets.Verdict.{Verdict}
 use Rattle.marker.specs.declared.targets.Verdict.the-variants.{Pass as Passed, Refused}
 use Rattle.marker.specs.declared.targets.Gots.{Gots}
 use Rattle.marker.specs.declared.targets.Mark.{Mark}
-use Rattle.marker.specs.Marks.{gotRow, gotsOf, verdictOf, markOf, ZerosBehind, RowsFor}
+use Rattle.marker.specs.Marks.{gotRow, gotsOf, verdictOf, ZerosBehind, RowsFor, MarkReturned}
 use Rattle.c_api.specs.Numbers.{gotNumbers, padded, markNumbers}
 
 abbrev noRow : Got
@@ -56,14 +56,14 @@ module _ (operations clocks : ℕ) (g : Gots) (b : ZerosBehind g) where
   passed-columns : behind (gotNumbers (tabulate (gotRow g) 0 4)) ≡ padded 16 (0 ∷ operations ∷ clocks ∷ length (gotsOf g) ∷ rows)
   passed-columns = rw (length-tabulate (gotRow g) 0 (g .count)) (ap behind columns)
 
-module _ (n p : Bytes) (m : Mark) (is : markOf m ≡ mark n p) where
+module _ (n p : Bytes) (m : Mark) (is : MarkReturned n p m) where
   by-verdict : (v : Verdict) → m .verdict ≡ v → markNumbers (verdictOf v (gotsOf (m .gots))) ≡ markNumbers (mark n p)
-  by-verdict v e = ap markNumbers (ap (λ (x : Verdict). verdictOf x (gotsOf (m .gots))) (sym e) ∙ is)
+  by-verdict v e = ap markNumbers (ap (λ (x : Verdict). verdictOf x (gotsOf (m .gots))) (sym e) ∙ is .result)
 
   pub refused-mark : (number place : ℕ) → m .verdict ≡ Refused number place → padded 16 (number ∷ place ∷ []) ≡ markNumbers (mark n p)
   refused-mark number place e = by-verdict (Refused number place) e
 
-  pub passed-mark : RowsFor (m .verdict) (m .gots) → (operations clocks : ℕ) → m .verdict ≡ Passed operations clocks
+  pub passed-mark : (operations clocks : ℕ) → m .verdict ≡ Passed operations clocks
       → 0 ∷ operations ∷ clocks ∷ m .gots .count ∷ gotNumbers (tabulate (gotRow (m .gots)) 0 4) ≡ markNumbers (mark n p)
-  passed-mark rows operations clocks e =
-      passed-columns operations clocks (m .gots) (subst (λ (v : Verdict). RowsFor v (m .gots)) e rows) ∙ by-verdict (Passed operations clocks) e
+  passed-mark operations clocks e =
+      passed-columns operations clocks (m .gots) (subst (λ (v : Verdict). RowsFor v (m .gots)) e (is .rows)) ∙ by-verdict (Passed operations clocks) e

@@ -15,28 +15,25 @@ use Rattle.model.specs.Calls.{written, countOf, clocksOf, ifRoom, clocksWritten
 use Rattle.model.proofs.Lists.{not-ok, ok-is, handed}
 use Rattle.model.proofs.CallCases.{Room, short as short-room, enough-room, room-case}
 use Rattle.model.proofs.PlanTexts.{text-of, clocks-bytes}
+use Rattle.clock_writer.specs.declared.Written.{Written}
+use Rattle.clock_writer.specs.declared.Written.the-variants.{Clocks, Refused}
+use Rattle.clock_writer.specs.Clocks.{writtenAnswer, WroteClocks}
 use Rattle.clock_writer.proofs.Rows.{rowBytes, row-length}
-
--- what the call answers and leaves in the buffers
-pub record Answers (p : Bytes) (tms tdi : List ℕ) (result : Result ℕ) (tms′ tdi′ : List ℕ) : Type 0 where
-  pub answer : result ≡ writeClocks p tms tdi .result
-  pub tms-left : tms′ ≡ writeClocks p tms tdi .tms
-  pub tdi-left : tdi′ ≡ writeClocks p tms tdi .tdi
 
 module _ (p : Bytes) (tms tdi : List ℕ) where
   -- by the clocks written, for these lengths
-  by-clocks : (cs : Result (List Clock)) → clocksWritten p (length tms) (length tdi) ≡ cs
-      → Answers p tms tdi (countOf (rowOf (λ c. c .tms) cs)) (written (rowOf (λ c. c .tms) cs) tms) (written (rowOf (λ c. c .tdi) cs) tdi)
+  by-clocks : (cs : Result (List Clock)) → clocksWritten p (length tms) (length tdi) ≡ cs → (w : Written) → writtenAnswer w ≡ countOf (rowOf (λ c. c .tms) cs)
+      → WroteClocks p tms tdi w (written (rowOf (λ c. c .tms) cs) tms) (written (rowOf (λ c. c .tdi) cs) tdi)
   unfolding writeClocks
-  by-clocks cs e = record {
-    answer = ap (λ (x : Result (List Clock)). countOf (rowOf (λ c. c .tms) x)) (sym e);
+  by-clocks cs e w is = record {
+    result = is ∙ ap (λ (x : Result (List Clock)). countOf (rowOf (λ c. c .tms) x)) (sym e);
     tms-left = ap (λ (x : Result (List Clock)). written (rowOf (λ c. c .tms) x) tms) (sym e);
     tdi-left = ap (λ (x : Result (List Clock)). written (rowOf (λ c. c .tdi) x) tdi) (sym e);
   }
 
-  pub bad-form : (place : ℕ) → readPlan p ≡ refused 14 place → Answers p tms tdi (refused 14 place) tms tdi
+  pub bad-form : (place : ℕ) → readPlan p ≡ refused 14 place → WroteClocks p tms tdi (Refused 14 place) tms tdi
   unfolding clocksWritten clocksOf
-  bad-form place e = by-clocks (refused 14 place) (rw e)
+  bad-form place e = by-clocks (refused 14 place) (rw e) (Refused 14 place) refl
 
   module _ (plan : Plan) (reads : readPlan p ≡ ok plan) where
     as-long : length (planClocks plan) ≡ length p
@@ -50,27 +47,27 @@ module _ (p : Bytes) (tms tdi : List ℕ) where
     unfolding clocksWritten clocksOf
     by-room = rw reads
 
-    short : clocksWritten p (length tms) (length tdi) ≡ refused 13 (length (planClocks plan)) → Answers p tms tdi (refused 13 (length p)) tms tdi
-    short e = by-clocks (refused 13 (length p)) (e ∙ ap (refused 13) as-long)
+    short : clocksWritten p (length tms) (length tdi) ≡ refused 13 (length (planClocks plan)) → WroteClocks p tms tdi (Refused 13 (length p)) tms tdi
+    short e = by-clocks (refused 13 (length p)) (e ∙ ap (refused 13) as-long) (Refused 13 (length p)) refl
 
-    pub short-tms : length tms < length p → Answers p tms tdi (refused 13 (length p)) tms tdi
+    pub short-tms : length tms < length p → WroteClocks p tms tdi (Refused 13 (length p)) tms tdi
     short-tms h = short (by-room ∙ rw (lt-ltb (length tms) (length (planClocks plan)) (omega (arith, as-long))))
 
     module _ (tms-fits : length p ≤ length tms) where
       room : ifRoom (length tms) (planClocks plan) ≡ ok (planClocks plan)
       room = rw (le-ltb (length tms) (length (planClocks plan)) (omega (arith, as-long)))
 
-      pub short-tdi : length tdi < length p → Answers p tms tdi (refused 13 (length p)) tms tdi
+      pub short-tdi : length tdi < length p → WroteClocks p tms tdi (Refused 13 (length p)) tms tdi
       short-tdi h = short (by-room ∙ rw room (rw (lt-ltb (length tdi) (length (planClocks plan)) (omega (arith, as-long)))))
 
       pub all-written : length p ≤ length tdi → (tms′ tdi′ : List ℕ) → tms′ ≡ written (rowOf (λ c. c .tms) (clocksOf p)) tms
-          → tdi′ ≡ written (rowOf (λ c. c .tdi) (clocksOf p)) tdi → Answers p tms tdi (ok (length p)) tms′ tdi′
+          → tdi′ ≡ written (rowOf (λ c. c .tdi) (clocksOf p)) tdi → WroteClocks p tms tdi (Clocks (length p)) tms′ tdi′
       all-written h tms′ tdi′ e f =
           let cs = planClocks plan in
-          let a = by-clocks (ok cs) (by-room ∙ rw room (rw (le-ltb (length tdi) (length cs) (omega (arith, as-long))))) in
           let n : length (rowBytes (λ c. c .tms) cs) ≡ length p = row-length (λ c. c .tms) plan ∙ ap length (sym (text-of p plan reads .text)) in
+          let a = by-clocks (ok cs) (by-room ∙ rw room (rw (le-ltb (length tdi) (length cs) (omega (arith, as-long))))) (Clocks (length p)) (ap ok (sym n)) in
           record {
-            answer = ap ok (sym n) ∙ a .answer;
+            result = a .result;
             tms-left = e ∙ ap (λ (x : Result (List Clock)). written (rowOf (λ c. c .tms) x) tms) its-clocks ∙ a .tms-left;
             tdi-left = f ∙ ap (λ (x : Result (List Clock)). written (rowOf (λ c. c .tdi) x) tdi) its-clocks ∙ a .tdi-left;
           }

@@ -1,11 +1,10 @@
--- The clocks written bring the controller from Run-Test/Idle back to it: in the model, and on the table.
+-- The clocks written bring the controller from Run-Test/Idle back to it.
 -- Assumes nothing.
 use mathlib.Core.Path.{_≡_, refl, sym, ap, _∙_}
 use mathlib.Core.Bool.{Bool, true, false}
 use mathlib.Core.List.{List, [], _∷_, _++_, map}
-use Prim.Native.Nat.{ℕ, _<_}
+use Prim.Native.Nat.{ℕ}
 use lib.ListN.{take}
-use lib.Dec.{lit<}
 use Rattle.model.specs.Result.{ok}
 use Rattle.model.specs.Text.{Bytes}
 use Rattle.model.specs.Plan.{Plan}
@@ -14,9 +13,8 @@ use Rattle.model.specs.PlanText.{readPlan}
 use Rattle.model.specs.Calls.{clocksOf, ClocksAnswer, writeClocks}
 use Rattle.model.proofs.Lists.{not-ok, ok-is, handed}
 use Rattle.model.proofs.CallCases.{ClockCase, refuses, writes, clock-case, row-taken}
-use Rattle.clock_writer.specs.Machine.{stateAt, number, isOne, stateAfter, runOver}
+use Rattle.clock_writer.specs.Machine.{isOne, stateAfter}
 use Rattle.clock_writer.proofs.Rows.{tmsRow}
-use Rattle.clock_writer.proofs.Table.{rows, table-at, number-at, numbered}
 
 -- ---- in the model
 
@@ -71,17 +69,3 @@ idle-after p tms tdi count e = go (clock-case p tms tdi)
         ∙ ap (stateAfter idle) (row-pins clocks)
         ∙ ap (λ (cs : List Clock). stateAfter idle (pins cs)) (sym (ok-is (h .then)))
         ∙ plan-after (h .value)
-
--- ---- on the table
-
-table-run : (s : ℕ) (tms : Bytes) → s < 16 → runOver rows s tms ≡ number (stateAfter (stateAt s) (map isOne tms))
-unfolding runOver stateAfter
-table-run s [] h = sym (number-at s h)
-table-run s (b ∷ tms) h =
-    let n = numbered (next (stateAt s) (isOne b)) in
-    rw (table-at s b h) (table-run _ tms (n .0) ∙ rw (n .1))
-
--- "The clocks written bring the machine from Run-Test/Idle back to it"
-pub back-to-idle : (p : Bytes) (tms tdi : List ℕ) (count : ℕ) → writeClocks p tms tdi .result ≡ ok count
-    → runOver rows (number idle) (take count (writeClocks p tms tdi .tms)) ≡ number idle
-back-to-idle p tms tdi count e = table-run (number idle) (take count (writeClocks p tms tdi .tms)) (lit< tt) ∙ ap number (idle-after p tms tdi count e)

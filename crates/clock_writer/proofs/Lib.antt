@@ -4,3 +4,4 @@ pub mod Rows
 pub mod Lines
 pub mod Answers
 pub mod Idle
+pub mod Demand

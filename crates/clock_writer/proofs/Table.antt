@@ -16,10 +16,10 @@ use Rattle.clock_writer.specs.Machine.{states, stateAt, number, isOne, c
 
 -- ---- the states and their numbers
 
-pub number-at : (s : ℕ) → s < 16 → number (stateAt s) ≡ s
+number-at : (s : ℕ) → s < 16 → number (stateAt s) ≡ s
 number-at s h = sym (List·getD-map number states s reset) ∙ getD-tabulate (λ k. k) 0 16 s 0 h ∙ zero-add s
 
-pub numbered : (t : Tap) → (number t < 16) × (stateAt (number t) ≡ t)
+numbered : (t : Tap) → (number t < 16) × (stateAt (number t) ≡ t)
 numbered reset = (lit< tt, refl)
 numbered idle = (lit< tt, refl)
 numbered selectDR = (lit< tt, refl)

@@ -1,7 +1,8 @@
 -- The controller's states by number, and the clock machine over them.
 -- Assumes nothing.
+use mathlib.Core.Path.{_≡_}
 use mathlib.Core.Bool.{Bool, cond}
-use mathlib.Core.List.{List, [], _∷_}
+use mathlib.Core.List.{List, [], _∷_, map}
 use Prim.Native.Nat.{ℕ}
 use lib.ListN.{getD}
 use lib.Dec.{eqb}
@@ -51,7 +52,6 @@ unfoldable pub stateAfter : Tap → List Bool → Tap
 stateAfter state [] = state
 stateAfter state (tms ∷ clocks) = stateAfter (next state tms) clocks
 
--- the state's number after the clocks of these TMS bytes, by a table with a row for each state
-unfoldable pub runOver : List (List ℕ) → ℕ → Bytes → ℕ
-runOver table state [] = state
-runOver table state (b ∷ tms) = runOver table (getD (getD table state []) (columnOf b) 0) tms
+-- `run` returned r from a state on for the clocks of these TMS bytes
+abbrev pub RunReturned : ℕ → Bytes → ℕ → Type 0
+RunReturned state tms r = r ≡ number (stateAfter (stateAt state) (map isOne tms))

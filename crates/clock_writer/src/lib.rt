@@ -2,14 +2,13 @@
 use model::refusal;
 use plan_text::Form;
 ghost use mathlib.Core.Path.{_≡_};
-ghost use mathlib.Core.List.{map};
 ghost use Prim.Native.Nat.{_+_, _≤_, _<_};
 ghost use lib.ListN.{length};
-ghost use Rattle.model.specs.Calls.{clocksOf, rowOf, written, writeClocks};
+ghost use Rattle.model.specs.Calls.{clocksOf, rowOf, written};
 ghost use Rattle.plan_text.specs.Form.{HasForm};
 ghost use Rattle.plan_text.specs.Writing.{writeAt};
-ghost use Rattle.clock_writer.specs.Machine.{columnOf, isOne, number, stateAt, nextNumber, stateAfter};
-ghost use Rattle.clock_writer.specs.Clocks.{tmsBytes, tdiBytes, writtenAnswer};
+ghost use Rattle.clock_writer.specs.Machine.{columnOf, isOne, nextNumber, RunReturned};
+ghost use Rattle.clock_writer.specs.Clocks.{tmsBytes, tdiBytes, WroteClocks};
 
 // The next state for TMS 0 and for TMS 1 of each state: 0 Test-Logic-Reset, 1 Run-Test/Idle, 2 Select-DR, 3 Capture-DR,
 // 4 Shift-DR, 5 Exit1-DR, 6 Pause-DR, 7 Exit2-DR, 8 Update-DR, 9 Select-IR, 10 Capture-IR, 11 Shift-IR, 12 Exit1-IR,
@@ -62,7 +61,7 @@ pub fn next_state(state: u8, tms: u8) -> u8
 // The clock machine: the state after the clocks of these TMS bytes.
 pub fn run(state: u8, tms: &[u8]) -> u8
     requires { ⌜ state < 16 ⌝ }
-    ensures { λ r. ⌜ r ≡ number (stateAfter (stateAt state) (map isOne (now (tms .entry)))) ⌝ }
+    ensures { λ r. ⌜ RunReturned state (now (tms .entry)) r ⌝ }
 {
     let mut s = state;
     let mut i: usize = 0;
@@ -116,9 +115,7 @@ fn write_lines(plan: &[u8], tms: &mut [u8], tdi: &mut [u8])
 
 // The clock writer.
 pub fn write_clocks(plan: &[u8], tms: &mut [u8], tdi: &mut [u8]) -> Written
-    ensures { λ r. ⌜ writtenAnswer r ≡ writeClocks (now (plan .entry)) (now (tms .entry)) (now (tdi .entry)) .result ⌝ }
-    ensures { λ r. ⌜ now (tms .exit) ≡ writeClocks (now (plan .entry)) (now (tms .entry)) (now (tdi .entry)) .tms ⌝ }
-    ensures { λ r. ⌜ now (tdi .exit) ≡ writeClocks (now (plan .entry)) (now (tms .entry)) (now (tdi .entry)) .tdi ⌝ }
+    ensures { λ r. ⌜ WroteClocks (now (plan .entry)) (now (tms .entry)) (now (tdi .entry)) r (now (tms .exit)) (now (tdi .exit)) ⌝ }
 {
     let form = plan_text::check_form(plan);
     match form {

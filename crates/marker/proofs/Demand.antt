@@ -1,4 +1,4 @@
--- Demand 3 of the calls `mark` and `write_clocks`, from the model's theorems.
+-- The demands of the calls `mark` and `write_clocks`, from the model's theorems.
 -- Assumes nothing.
 use mathlib.Core.Path.{_≡_, refl, sym, ap, _∙_, subst}
 use mathlib.Core.List.{List}
@@ -14,17 +14,22 @@ use Rattle.model.specs.Tap.{Clock, planClocks, bitByte}
 use Rattle.model.specs.Mark.{Got, Pass, mark}
 use Rattle.model.specs.Calls.{clocksOf, clocksWritten, writeClocks}
 use Rattle.model.specs.Demands.{AcceptedAndValid, AsWritten}
+use Rattle.model.specs.Places.{_or_, Listed, NetworkRefusal, PlanTextRefusal, MarkerRefusal}
 use Rattle.model.proofs.Lists.{not-ok, ok-is}
 use Rattle.model.proofs.Marking.{passed-run}
 use Rattle.model.proofs.MarkerDemand.{marked-texts}
-use Rattle.model.proofs.Demands.{marker, clocks as written, played}
+use Rattle.model.proofs.Demands.{refusals, marker, clocks as written, played}
 use Rattle.clock_writer.specs.declared.Written.{Written}
 use Rattle.clock_writer.specs.declared.Written.the-variants.{Clocks, Refused as NotWritten}
 use Rattle.clock_writer.specs.Clocks.{writtenAnswer}
 use Rattle.marker.specs.declared.targets.Verdict.{Verdict}
 use Rattle.marker.specs.declared.targets.Verdict.the-variants.{Pass as Passed, Refused}
 use Rattle.marker.specs.Marks.{gotsOf, verdictOf}
-use Rattle.marker.specs.Demand.{PassesExactly, PassBorneOut}
+use Rattle.marker.specs.Demand.{EndsListed, PassesExactly, PassBorneOut}
+
+pub ends-listed : EndsListed
+ends-listed n p m e number place q =
+    subst (Listed (NetworkRefusal n or PlanTextRefusal p or MarkerRefusal n p)) (sym (e .result) ∙ ap (λ (v : Verdict). verdictOf v (gotsOf (m .gots))) q) (refusals .marker n p)
 
 -- the pass of a verdict
 pub verdict-pass : (v : Verdict) (gs : List Got) (pass : Pass) → verdictOf v gs ≡ ok pass → (lines clocks : ℕ) × (v ≡ Passed lines clocks)
@@ -35,10 +40,10 @@ pub passes-exactly : PassesExactly
 passes-exactly n p m e = (there, back)
   where
     there : (lines clocks : ℕ) × (m .verdict ≡ Passed lines clocks) → AcceptedAndValid n p
-    there (lines, clocks, q) = marker n p .0 (_, sym e ∙ ap (λ (v : Verdict). verdictOf v (gotsOf (m .gots))) q)
+    there (lines, clocks, q) = marker n p .0 (_, sym (e .result) ∙ ap (λ (v : Verdict). verdictOf v (gotsOf (m .gots))) q)
 
     back : AcceptedAndValid n p → (lines clocks : ℕ) × (m .verdict ≡ Passed lines clocks)
-    back a = let b = marker n p .1 a in verdict-pass (m .verdict) (gotsOf (m .gots)) (b .0) (e ∙ b .1)
+    back a = let b = marker n p .1 a in verdict-pass (m .verdict) (gotsOf (m .gots)) (b .0) (e .result ∙ b .1)
 
 -- the answer of a call that writes
 answer-clocks : (w : Written) (count : ℕ) → writtenAnswer w ≡ ok count → w ≡ Clocks count
@@ -74,7 +79,7 @@ pass-borne-out n p m lines count e q tms tdi w tms′ tdi′ wrote a b = (
     pass = record { operations = lines; clocks = count; gots = gotsOf (m .gots) }
 
     is : mark n p ≡ ok pass
-    is = sym e ∙ ap (λ (x : Verdict). verdictOf x (gotsOf (m .gots))) q
+    is = sym (e .result) ∙ ap (λ (x : Verdict). verdictOf x (gotsOf (m .gots))) q
 
     v : AcceptedAndValid n p
     v = marker n p .0 (pass, is)

@@ -1,5 +1,5 @@
--- Demand 3 of the calls `mark` and `write_clocks`: statements about whatever they return and leave by their contracts.
--- proofs/Demand.antt proves them from the model's theorems.
+-- Demands 1 and 3 of the call `mark`, and demand 3 of it with `write_clocks`: statements about whatever they return and leave by
+-- their contracts. proofs/Demand.antt proves them from the model's theorems.
 -- Assumes nothing.
 use mathlib.Core.Path.{_≡_}
 use mathlib.Core.Logic.{_↔_}
@@ -14,36 +14,29 @@ use Rattle.model.specs.Tap.{Clock, bitByte}
 use Rattle.model.specs.Frame.{Registers, Captures, Holds}
 use Rattle.model.specs.NetworkText.{readNetwork}
 use Rattle.model.specs.PlanText.{readPlan}
-use Rattle.model.specs.Mark.{mark}
-use Rattle.model.specs.Calls.{writeClocks}
 use Rattle.model.specs.Played.{UpheldBy}
+use Rattle.model.specs.Places.{_or_, NetworkRefusal, PlanTextRefusal, MarkerRefusal}
 use Rattle.model.specs.Demands.{AcceptedAndValid}
 use Rattle.clock_writer.specs.declared.Written.{Written}
 use Rattle.clock_writer.specs.declared.Written.the-variants.{Clocks}
-use Rattle.clock_writer.specs.Clocks.{writtenAnswer}
+use Rattle.clock_writer.specs.Clocks.{WroteClocks}
 use Rattle.marker.specs.declared.targets.Mark.{Mark}
-use Rattle.marker.specs.declared.targets.Verdict.the-variants.{Pass}
-use Rattle.marker.specs.Marks.{gotsOf, markOf}
+use Rattle.marker.specs.declared.targets.Verdict.the-variants.{Pass, Refused}
+use Rattle.marker.specs.Marks.{gotsOf, MarkReturned}
 
--- ---- the contracts of the two calls
+-- ---- demand 1: "Whatever text or length comes in, each call ends with a result or one listed number and place."
 
--- `mark` returned m for two texts
-abbrev pub MarkReturned : Bytes → Bytes → Mark → Type 0
-MarkReturned n p m = markOf m ≡ mark n p
+abbrev pub EndsListed : Type 0
+EndsListed = (n p : Bytes) (m : Mark) → MarkReturned n p m → (number place : ℕ) → m .verdict ≡ Refused number place
+    → (NetworkRefusal n or PlanTextRefusal p or MarkerRefusal n p) number place
 
--- `write_clocks` returned w for a plan text, and left the buffers tms and tdi as tms′ and tdi′
-pub record WroteClocks (p : Bytes) (tms tdi : List ℕ) (w : Written) (tms′ tdi′ : List ℕ) : Type 0 where
-  pub result : writtenAnswer w ≡ writeClocks p tms tdi .result
-  pub tms-left : tms′ ≡ writeClocks p tms tdi .tms
-  pub tdi-left : tdi′ ≡ writeClocks p tms tdi .tdi
-
--- ---- "The marker passes two texts exactly when the network is accepted and the plan (at most 16 operations) is valid for it."
+-- ---- demand 3: "The marker passes two texts exactly when the network is accepted and the plan (at most 16 operations) is valid for it."
 
 abbrev pub PassesExactly : Type 0
 PassesExactly = (n p : Bytes) (m : Mark) → MarkReturned n p m → ((lines clocks : ℕ) × (m .verdict ≡ Pass lines clocks)) ↔ AcceptedAndValid n p
 
--- ---- "For a passed plan, whatever the unknown start bits are and whatever each capture brings, for the WHOLE list of its
--- clocks played from Run-Test/Idle on document 01's test frame: .."
+-- ---- demand 3: "For a passed plan, whatever the unknown start bits are and whatever each capture brings, for the WHOLE list of
+-- its clocks played from Run-Test/Idle on document 01's test frame: .."
 
 -- the clocks in these buffers bear out every claim of the pass
 pub record BorneOut (n p : Bytes) (m : Mark) (lines clocks : ℕ) (tms tdi : List ℕ) : Type 0 where

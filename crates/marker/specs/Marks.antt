@@ -8,7 +8,7 @@ use Rattle.model.specs.Result.{Result, ok, refused, andThen}
 use Rattle.model.specs.Text.{Bytes}
 use Rattle.model.specs.Network.{tabulate}
 use Rattle.model.specs.PlanText.{readPlan}
-use Rattle.model.specs.Mark.{Got, Pass, markPlan}
+use Rattle.model.specs.Mark.{Got, Pass, markPlan, mark}
 use Rattle.plan_text.specs.Form.{planForm}
 use Rattle.network_reader.specs.declared.reader.Network.{Network}
 use Rattle.network_reader.specs.declared.reader.Acceptance.the-variants.{Accepted}
@@ -50,6 +50,11 @@ refusedMark number place = record { verdict = Refused number place; gots = noGot
 abbrev pub RowsFor : Verdict → Gots → Type 0
 RowsFor (Passed lines clocks) g = ZerosBehind g
 RowsFor (Refused number place) g = g ≡ noGots
+
+-- `mark` returned m for two texts
+pub record MarkReturned (n p : Bytes) (m : Mark) : Type 0 where
+  pub result : markOf m ≡ mark n p
+  pub rows : RowsFor (m .verdict) (m .gots)
 
 -- ---- the texts read
 

@@ -11,8 +11,7 @@ use network_reader::reader::read_network;
 use plan_text::Form;
 use plan_text::check_form;
 ghost use mathlib.Core.Path.{_≡_};
-ghost use Rattle.model.specs.Mark.{mark as markOfTexts};
-ghost use Rattle.marker.specs.Marks.{markOf, RowsFor, Markable, planMark};
+ghost use Rattle.marker.specs.Marks.{markOf, RowsFor, MarkReturned, Markable, planMark};
 
 pub mod targets;
 
@@ -53,8 +52,7 @@ fn mark_operations(net: Network, plan: &[u8], lines: usize) -> Mark
 
 // The marker: the network's refusals, then the plan's form, its operations and the targets.
 pub fn mark(network: &[u8], plan: &[u8]) -> Mark
-    ensures { λ r. ⌜ markOf r ≡ markOfTexts (now (network .entry)) (now (plan .entry)) ⌝ }
-    ensures { λ r. ⌜ RowsFor (r .verdict) (r .gots) ⌝ }
+    ensures { λ r. ⌜ MarkReturned (now (network .entry)) (now (plan .entry)) r ⌝ }
 {
     let reading = read_network(network);
     let verdict = reading.verdict;

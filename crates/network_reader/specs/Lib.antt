@@ -2,3 +2,4 @@
 pub mod Start
 pub mod Counts
 pub mod Reads
+pub mod Demand

@@ -20,7 +20,7 @@ use Rattle.network_reader.specs.Reads.{recordedNetwork}
 use Rattle.planner_text.specs.declared.Planned.{Planned}
 use Rattle.planner_text.specs.declared.Planned.the-variants.{Refused}
 use Rattle.planner_text.specs.Writing.{plannedAnswer, Given}
-use Rattle.planner.specs.Call.{PlansIn}
+use Rattle.planner.specs.Call.{PlansIn, MadePlan}
 
 -- ---- the answer of the search
 
@@ -44,40 +44,41 @@ module _ (r : Network) (search plan search′ : List ℕ) (clear : search′ ≡
 
 -- ---- the whole call
 
--- the answer, the search space and the plan buffer are the model's
-abbrev pub Makes : Bytes → List ℕ → List ℕ → Planned → List ℕ → List ℕ → Type 0
-Makes n search plan a search′ plan′ =
-    (plannedAnswer a ≡ makePlan n search plan .result) × ((search′ ≡ makePlan n search plan .search) × (plan′ ≡ makePlan n search plan .plan))
-
 module _ (n : Bytes) (search plan : List ℕ) where
   makes-by : (x : Result ModelNetwork) → searchable n (length search) ≡ x
       → makePlan n search plan ≡ record { result = countOf (planned x (length plan)); search = cleared x search; plan = written (planned x (length plan)) plan }
   unfolding makePlan
   makes-by x e = rw e
 
-  makes-refused : (number place : ℕ) → searchable n (length search) ≡ refused number place → Makes n search plan (Refused number place) search plan
+  makes-refused : (number place : ℕ) → searchable n (length search) ≡ refused number place → MadePlan n search plan (Refused number place) search plan
   makes-refused number place e =
       let m = makes-by (refused number place) e in
-      (sym (ap (λ (y : PlanAnswer). y .result) m), (sym (ap (λ (y : PlanAnswer). y .search) m), sym (ap (λ (y : PlanAnswer). y .plan) m)))
+      record {
+        result = sym (ap (λ (y : PlanAnswer). y .result) m);
+        search-left = sym (ap (λ (y : PlanAnswer). y .search) m);
+        plan-left = sym (ap (λ (y : PlanAnswer). y .plan) m);
+      }
 
-  pub network-refused : (number place : ℕ) → readNetwork n ≡ refused number place → Makes n search plan (Refused number place) search plan
+  pub network-refused : (number place : ℕ) → readNetwork n ≡ refused number place → MadePlan n search plan (Refused number place) search plan
   unfolding searchable
   network-refused number place e = makes-refused number place (rw e)
 
   module _ (net : ModelNetwork) (reads : readNetwork n ≡ ok net) (k : ℕ) (count : k ≡ length (steeringBits (net .nodes))) where
-    pub too-many : 6 < k → Makes n search plan (Refused 10 k) search plan
+    pub too-many : 6 < k → MadePlan n search plan (Refused 10 k) search plan
     unfolding searchable
     too-many h = makes-refused 10 k (rw (reads, lt-ltb 6 (length (steeringBits (net .nodes))) (omega arith)) (ap (refused 10) (sym count)))
 
     module _ (few : k ≤ 6) where
-      pub too-short : length search < 11664 → Makes n search plan (Refused 12 11664) search plan
+      pub too-short : length search < 11664 → MadePlan n search plan (Refused 12 11664) search plan
       unfolding searchable searchEntries
       too-short h = makes-refused 12 11664 (rw (reads, le-ltb 6 (length (steeringBits (net .nodes))) (omega arith)) (rw (lt-ltb (length search) 11664 h)))
 
-      pub searched : (r : Network) (a : Planned) (search′ plan′ : List ℕ) → recordedNetwork r ≡ net → 11664 ≤ length search → PlansIn r search plan a search′ plan′ → Makes n search plan a search′ plan′
+      pub searched : (r : Network) (a : Planned) (search′ plan′ : List ℕ) → recordedNetwork r ≡ net → 11664 ≤ length search → PlansIn r search plan a search′ plan′ → MadePlan n search plan a search′ plan′
       unfolding searchable searchEntries
       searched r a search′ plan′ e h p =
-          let m = makes-by (ok net) (rw (reads, le-ltb 6 (length (steeringBits (net .nodes))) (omega arith)) (rw (le-ltb (length search) 11664 h))) in (
-            p .result ∙ ap (λ (w : ModelNetwork). countOf (planned (ok w) (length plan))) e ∙ sym (ap (λ (y : PlanAnswer). y .result) m),
-            (p .search-left ∙ sym (ap (λ (y : PlanAnswer). y .search) m), p .plan-left ∙ ap (λ (w : ModelNetwork). written (planned (ok w) (length plan)) plan) e ∙ sym (ap (λ (y : PlanAnswer). y .plan) m)),
-          )
+          let m = makes-by (ok net) (rw (reads, le-ltb 6 (length (steeringBits (net .nodes))) (omega arith)) (rw (le-ltb (length search) 11664 h))) in
+          record {
+            result = p .result ∙ ap (λ (w : ModelNetwork). countOf (planned (ok w) (length plan))) e ∙ sym (ap (λ (y : PlanAnswer). y .result) m);
+            search-left = p .search-left ∙ sym (ap (λ (y : PlanAnswer). y .search) m);
+            plan-left = p .plan-left ∙ ap (λ (w : ModelNetwork). written (planned (ok w) (length plan)) plan) e ∙ sym (ap (λ (y : PlanAnswer). y .plan) m);
+          }

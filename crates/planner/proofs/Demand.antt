@@ -1,6 +1,6 @@
--- Demand 3 of the call `make_plan`, from the model's theorems.
+-- The demands of the call `make_plan`, from the model's theorems.
 -- Assumes nothing.
-use mathlib.Core.Path.{_≡_, refl, sym, ap, _∙_}
+use mathlib.Core.Path.{_≡_, refl, sym, ap, _∙_, subst}
 use mathlib.Core.List.{List}
 use Prim.Native.Nat.{ℕ, _<_}
 use lib.ListN.{length, take}
@@ -9,15 +9,31 @@ use Rattle.model.specs.Plan.{Plan, ValidPlan}
 use Rattle.model.specs.PlanText.{readPlan}
 use Rattle.model.specs.Mark.{mark}
 use Rattle.model.specs.Calls.{makePlan}
-use Rattle.model.specs.Demands.{Planned as ModelPlanned, PlansExactly as ModelExactly}
+use Rattle.model.specs.Places.{_or_, Listed, NetworkRefusal, PlannerRefusal}
+use Rattle.model.specs.Demands.{pastCheck12, Planned as ModelPlanned, PlansExactly as ModelExactly}
 use Rattle.model.proofs.Lists.{not-ok, refusal-number, refusal-place}
-use Rattle.model.proofs.Demands.{planner, limits}
+use Rattle.model.proofs.Demands.{plan-buffer, search-space, refusals, planner, limits}
 use Rattle.marker.proofs.Demand.{verdict-pass}
 use Rattle.marker.specs.Marks.{gotsOf}
 use Rattle.planner_text.specs.declared.Planned.{Planned}
 use Rattle.planner_text.specs.declared.Planned.the-variants.{Written, Refused}
 use Rattle.planner_text.specs.Writing.{plannedAnswer}
-use Rattle.planner.specs.Demand.{PlanWritten, Outcome, no-plan, a-plan, PlansExactly, RefusesOnlyShort}
+use Rattle.planner.specs.Demand.{BuffersKept, EndsListed, PlanWritten, Outcome, no-plan, a-plan, PlansExactly, RefusesOnlyShort}
+
+-- ---- demand 1
+
+pub buffers-kept : BuffersKept
+buffers-kept n search plan a search′ plan′ made = record {
+  plan-kept = λ number place e. made .plan-left ∙ plan-buffer n search plan number place (sym (made .result) ∙ ap plannedAnswer e);
+  search-cleared = λ past. rw (made .search-left) (search-space n search plan .0 (sym (ap pastCheck12 (made .result)) ∙ past));
+  search-kept = λ before. made .search-left ∙ search-space n search plan .1 (sym (ap pastCheck12 (made .result)) ∙ before);
+}
+
+pub ends-listed : EndsListed
+ends-listed n search plan a search′ plan′ made number place e =
+    subst (Listed (NetworkRefusal n or PlannerRefusal n search plan)) (sym (made .result) ∙ ap plannedAnswer e) (refusals .planner n search plan)
+
+-- ---- demand 3
 
 -- an answer is told by its number and values
 answer-refused : (a : Planned) (number place : ℕ) → plannedAnswer a ≡ refused number place → a ≡ Refused number place
@@ -40,7 +56,7 @@ plans-exactly n net search plan a search′ plan′ made accepted few enough roo
     written count p = record {
       plan = p .plan;
       reads = ap (λ (b : List ℕ). readPlan (take count b)) (made .plan-left) ∙ p .reads;
-      passes = λ m e. verdict-pass (m .verdict) (gotsOf (m .gots)) (p .passes .0) (e ∙ ap (λ (b : List ℕ). mark n (take count b)) (made .plan-left) ∙ p .passes .1);
+      passes = λ m e. verdict-pass (m .verdict) (gotsOf (m .gots)) (p .passes .0) (e .result ∙ ap (λ (b : List ℕ). mark n (take count b)) (made .plan-left) ∙ p .passes .1);
       fewest = p .named .fewest;
       named = p .named;
     }

@@ -6,7 +6,8 @@ use Prim.Native.Nat.{ℕ, _≤_}
 use lib.ListN.{length, replicate}
 use Rattle.model.specs.Limits.{searchSize}
 use Rattle.model.specs.Result.{ok}
-use Rattle.model.specs.Calls.{writeOver, written, countOf, searchEntries, planned}
+use Rattle.model.specs.Text.{Bytes}
+use Rattle.model.specs.Calls.{writeOver, written, countOf, searchEntries, planned, makePlan}
 use Rattle.model.specs.Accepted.{Accepted}
 use Rattle.network_reader.specs.declared.reader.Network.{Network}
 use Rattle.network_reader.specs.Reads.{recordedNetwork, RecordComplete}
@@ -25,3 +26,9 @@ pub record PlansIn (r : Network) (search plan : List ℕ) (a : Planned) (search�
   pub result : plannedAnswer a ≡ countOf (planned (ok (recordedNetwork r)) (length plan))
   pub search-left : search′ ≡ writeOver (replicate searchEntries 0) search
   pub plan-left : plan′ ≡ written (planned (ok (recordedNetwork r)) (length plan)) plan
+
+-- `make_plan` returned a for a network text, and left the search space as search′ and the plan buffer as plan′
+pub record MadePlan (n : Bytes) (search plan : List ℕ) (a : Planned) (search′ plan′ : List ℕ) : Type 0 where
+  pub result : plannedAnswer a ≡ makePlan n search plan .result
+  pub search-left : search′ ≡ makePlan n search plan .search
+  pub plan-left : plan′ ≡ makePlan n search plan .plan

@@ -1,7 +1,8 @@
--- Demand 3 of the call `make_plan`: statements about whatever it returns and leaves by its contract. proofs/Demand.antt proves them
--- from the model's theorems.
+-- Demands 1 and 3 of the call `make_plan`: statements about whatever it returns and leaves by its contract. proofs/Demand.antt
+-- proves them from the model's theorems.
 -- Assumes nothing.
 use mathlib.Core.Path.{_≡_}
+use mathlib.Core.Bool.{true, false}
 use mathlib.Core.Logic.{_↔_}
 use mathlib.Core.List.{List}
 use Prim.Native.Nat.{ℕ, _≤_, _<_}
@@ -13,19 +14,34 @@ use Rattle.model.specs.Network.{Network, steeringBits}
 use Rattle.model.specs.Plan.{Plan, ValidPlan, Named}
 use Rattle.model.specs.NetworkText.{readNetwork}
 use Rattle.model.specs.PlanText.{readPlan}
-use Rattle.model.specs.Calls.{makePlan}
+use Rattle.model.specs.Places.{_or_, NetworkRefusal, PlannerRefusal}
+use Rattle.model.specs.Demands.{SearchCleared, pastCheck12}
 use Rattle.marker.specs.declared.targets.Mark.{Mark}
 use Rattle.marker.specs.declared.targets.Verdict.the-variants.{Pass}
-use Rattle.marker.specs.Demand.{MarkReturned}
+use Rattle.marker.specs.Marks.{MarkReturned}
 use Rattle.planner_text.specs.declared.Planned.{Planned}
 use Rattle.planner_text.specs.declared.Planned.the-variants.{Written, Refused}
 use Rattle.planner_text.specs.Writing.{plannedAnswer}
+use Rattle.planner.specs.Call.{MadePlan}
 
--- the contract: `make_plan` returned a, and left the search space as search′ and the plan buffer as plan′
-pub record MadePlan (n : Bytes) (search plan : List ℕ) (a : Planned) (search′ plan′ : List ℕ) : Type 0 where
-  pub result : plannedAnswer a ≡ makePlan n search plan .result
-  pub search-left : search′ ≡ makePlan n search plan .search
-  pub plan-left : plan′ ≡ makePlan n search plan .plan
+-- ---- demand 1
+
+-- "Every lent buffer keeps all its bytes on a refusal, save the search space, which is cleared as document 01 says"
+pub record LentLeft (search plan : List ℕ) (a : Planned) (search′ plan′ : List ℕ) : Type 0 where
+  pub plan-kept : (number place : ℕ) → a ≡ Refused number place → plan′ ≡ plan
+  -- "Past check 12 the first 11,664 search entries end as 0; others never change."
+  pub search-cleared : pastCheck12 (plannedAnswer a) ≡ true → SearchCleared search search′
+  pub search-kept : pastCheck12 (plannedAnswer a) ≡ false → search′ ≡ search
+
+abbrev pub BuffersKept : Type 0
+BuffersKept = (n : Bytes) (search plan : List ℕ) (a : Planned) (search′ plan′ : List ℕ) → MadePlan n search plan a search′ plan′ → LentLeft search plan a search′ plan′
+
+-- "Whatever text or length comes in, each call ends with a result or one listed number and place."
+abbrev pub EndsListed : Type 0
+EndsListed = (n : Bytes) (search plan : List ℕ) (a : Planned) (search′ plan′ : List ℕ) → MadePlan n search plan a search′ plan′
+    → (number place : ℕ) → a ≡ Refused number place → (NetworkRefusal n or PlannerRefusal n search plan) number place
+
+-- ---- demand 3
 
 -- "it writes a plan that passes, and no valid plan has fewer operations"; it is the plan that document 01 names
 pub record PlanWritten (n : Bytes) (net : Network) (text : Bytes) : Type 0 where

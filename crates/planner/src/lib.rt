@@ -17,11 +17,8 @@ use planner_steering::problem_of;
 use planner_steering::setting_number;
 use planner_text::Planned;
 use planner_text::write_plan;
-ghost use mathlib.Core.Path.{_≡_};
 ghost use Prim.Native.Nat.{_≤_};
-ghost use Rattle.model.specs.Calls.{makePlan};
-ghost use Rattle.planner_text.specs.Writing.{plannedAnswer};
-ghost use Rattle.planner.specs.Call.{Searchable, PlansIn};
+ghost use Rattle.planner.specs.Call.{Searchable, PlansIn, MadePlan};
 
 // The search for the plan of a network with targets: 11, or its text.
 fn search_network(net: Network, search: &mut [u16], plan: &mut [u8]) -> Planned
@@ -74,9 +71,7 @@ fn plan_network(net: Network, search: &mut [u16], plan: &mut [u8]) -> Planned
 
 // The planner: the network's refusals, then 10, 12, 11, 13. The plan's text goes to the front of plan.
 pub fn make_plan(network: &[u8], search: &mut [u16], plan: &mut [u8]) -> Planned
-    ensures { λ r. ⌜ plannedAnswer r ≡ makePlan (now (network .entry)) (now (search .entry)) (now (plan .entry)) .result ⌝ }
-    ensures { λ r. ⌜ now (search .exit) ≡ makePlan (now (network .entry)) (now (search .entry)) (now (plan .entry)) .search ⌝ }
-    ensures { λ r. ⌜ now (plan .exit) ≡ makePlan (now (network .entry)) (now (search .entry)) (now (plan .entry)) .plan ⌝ }
+    ensures { λ r. ⌜ MadePlan (now (network .entry)) (now (search .entry)) (now (plan .entry)) r (now (search .exit)) (now (plan .exit)) ⌝ }
 {
     let reading = read_network(network);
     let verdict = reading.verdict;

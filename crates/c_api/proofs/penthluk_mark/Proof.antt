@@ -55,13 +55,13 @@ returns c =
     let t = c .before .before .before .before .before .before .before .before .before .before .before .before .before .before .before .before .before in
     let a = t .before .before .before .args in
     let e = c .before .before .before .before .before .before .before .before .before .before .before .before .before .before .verdict .given .1 in
-    passed-mark (a .network .now) (a .plan .now) (t .mark .result) (t .mark .ensures .0) (t .mark .ensures .1) _ _ e
+    passed-mark (a .network .now) (a .plan .now) (t .mark .result) (t .mark .ensures) _ _ e
 
 returns-2 : tie.Need-returns-2
 returns-2 c =
     let t = c .before .before .before .before .before in
     let a = t .before .before .before .args in
-    refused-mark (a .network .now) (a .plan .now) (t .mark .result) (t .mark .ensures .0) _ _ (c .before .before .verdict2 .given .1)
+    refused-mark (a .network .now) (a .plan .now) (t .mark .result) (t .mark .ensures) _ _ (c .before .before .verdict2 .given .1)
 
 pub penthluk-mark-spec : {M : Type 1} → statement M
 penthluk-mark-spec =

@@ -22,14 +22,12 @@ good c = form-good _ _ _ (c .before .before .check-form .ensures) (c .enum-told 
 returns : tie.Need-returns
 returns c =
     let g = good (c .before) in
-    let a = short-tms _ _ _ (g .plan) (g .reads) (c .if1 .taken) in
-    (a .answer, (a .tms-left, a .tdi-left))
+    short-tms _ _ _ (g .plan) (g .reads) (c .if1 .taken)
 
 returns-2 : tie.Need-returns-2
 returns-2 c =
     let g = good (c .before .before) in
-    let a = short-tdi _ _ _ (g .plan) (g .reads) (c .before .if1 .left) (c .if2 .taken) in
-    (a .answer, (a .tms-left, a .tdi-left))
+    short-tdi _ _ _ (g .plan) (g .reads) (c .before .if1 .left) (c .if2 .taken)
 
 write-lines-requires : tie.Need-write-lines-requires
 write-lines-requires c κs =
@@ -37,9 +35,7 @@ write-lines-requires c κs =
     ((g .plan, g .reads), (c .before .before .before .if1 .left, c .before .before .if2 .left))
 
 returns-3 : tie.Need-returns-3
-returns-3 c =
-    let a = bad-form _ _ _ _ (form-refused _ _ _ (c .before .before .before .check-form .ensures) (c .before .form .given .1)) in
-    (a .answer, (a .tms-left, a .tdi-left))
+returns-3 c = bad-form _ _ _ _ (form-refused _ _ _ (c .before .before .before .check-form .ensures) (c .before .form .given .1))
 
 same-length : tie.Need-same-length
 same-length c = search needs
@@ -52,8 +48,7 @@ returns-4 c =
     let w = c .before .before .before .before in
     let g = good (w .before .before .before .before .before) in
     let fits = w .before .before .before in
-    let a = all-written _ _ _ (g .plan) (g .reads) (fits .before .if1 .left) (fits .if2 .left) _ _ (w .write-lines .ensures .0) (w .write-lines .ensures .1) in
-    (a .answer, (a .tms-left, a .tdi-left))
+    all-written _ _ _ (g .plan) (g .reads) (fits .before .if1 .left) (fits .if2 .left) _ _ (w .write-lines .ensures .0) (w .write-lines .ensures .1)
 
 pub write-clocks-spec : {M : Type 1} → statement M
 write-clocks-spec =

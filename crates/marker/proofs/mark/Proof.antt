@@ -22,7 +22,10 @@ returns c =
     let reading = rejected .before .before .before in
     let t = reading .before .before .before in
     let e = c .refused .ensures in
-    (ap markOf e ∙ network-refused (t .args .network .now) (t .args .plan .now) _ (reading .read-network .ensures) _ _ (rejected .verdict .given .1), rows-refused _ _ _ e)
+    record {
+      result = ap markOf e ∙ network-refused (t .args .network .now) (t .args .plan .now) _ (reading .read-network .ensures) _ _ (rejected .verdict .given .1);
+      rows = rows-refused _ _ _ e;
+    }
 
 enum-told : tie.Need-enum-told
 enum-told c = search needs
@@ -56,7 +59,10 @@ returns-2 c =
     let reading = accepted .before .before .before in
     let t = reading .before .before .before in
     let e = c .«refused2» .ensures in
-    (ap markOf e ∙ plan-refused (t .args .network .now) (t .args .plan .now) _ (reading .read-network .ensures) (accepted .enum-told .given .1) _ (form .check-form .ensures) _ (bad .form .given .1), rows-refused _ _ _ e)
+    record {
+      result = ap markOf e ∙ plan-refused (t .args .network .now) (t .args .plan .now) _ (reading .read-network .ensures) (accepted .enum-told .given .1) _ (form .check-form .ensures) _ (bad .form .given .1);
+      rows = rows-refused _ _ _ e;
+    }
 
 returns-3 : tie.Need-returns-3
 returns-3 c =
@@ -64,7 +70,10 @@ returns-3 c =
     let reading = accepted .before .before .before in
     let t = reading .before .before .before in
     let e = c .mark-operations .ensures in
-    (e .0 ∙ network-accepted (t .args .network .now) (t .args .plan .now) _ (reading .read-network .ensures) (accepted .enum-told .given .1), e .1)
+    record {
+      result = e .0 ∙ network-accepted (t .args .network .now) (t .args .plan .now) _ (reading .read-network .ensures) (accepted .enum-told .given .1);
+      rows = e .1;
+    }
 
 pub mark-spec : {M : Type 1} → statement M
 mark-spec =

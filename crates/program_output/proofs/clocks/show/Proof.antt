@@ -29,7 +29,7 @@ slice-aggregate-show-operations-2 c = search needs
 show-operations-requires : tie.Need-show-operations-requires
 show-operations-requires c κs =
     let w = c .before .before .before .before .before .before .write-clocks in
-    let o = count-says _ _ _ _ (sym (w .ensures .0) ∙ ap writtenAnswer (c .before .before .enum-told .given .1)) in
+    let o = count-says _ _ _ _ (sym (w .ensures .result) ∙ ap writtenAnswer (c .before .before .enum-told .given .1)) in
     ((o .plan, o .reads), (omega arith, omega arith))
 
 enum-known-written : tie.Need-enum-known-written

@@ -25,7 +25,7 @@ show-pass-requires : tie.Need-show-pass-requires
 show-pass-requires c κs = search needs
 
 show-gots-requires : tie.Need-show-gots-requires
-show-gots-requires c κs = let m = c .before .before .before .before .before .mark in few (m .result .verdict) (m .result .gots) (m .ensures .1)
+show-gots-requires c κs = let m = c .before .before .before .before .before .mark in few (m .result .verdict) (m .result .gots) (m .ensures .rows)
 
 enum-known-verdict-2 : tie.Need-enum-known-verdict-2
 enum-known-verdict-2 c = search needs

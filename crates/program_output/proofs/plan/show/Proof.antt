@@ -24,12 +24,12 @@ enum-known-planned c = search needs
 array-share-prefix-plan : tie.Need-array-share-prefix-plan
 array-share-prefix-plan c =
     let m = c .before .before .before .before .before .make-plan in
-    omega (arith, count-fits _ _ _ _ (sym (m .ensures .0) ∙ ap plannedAnswer (c .before .planned .given .1)))
+    omega (arith, count-fits _ _ _ _ (sym (m .ensures .result) ∙ ap plannedAnswer (c .before .planned .given .1)))
 
 slice-aggregate-put-lines : tie.Need-slice-aggregate-put-lines
 slice-aggregate-put-lines c =
     let m = c .before .before .before .before .before .before .make-plan in
-    sym (length-take-le _ _ (omega (arith, count-fits _ _ _ _ (sym (m .ensures .0) ∙ ap plannedAnswer (c .before .before .planned .given .1)))))
+    sym (length-take-le _ _ (omega (arith, count-fits _ _ _ _ (sym (m .ensures .result) ∙ ap plannedAnswer (c .before .before .planned .given .1)))))
 
 put-lines-requires : tie.Need-put-lines-requires
 put-lines-requires c κs = search needs
