@@ -23,7 +23,7 @@ use Rattle.network_line.specs.declared.NodeData.{NodeData}
 use Rattle.network_line.specs.declared.NodeData.the-variants.{Segment, Multiplexer}
 use Rattle.network_line.specs.Line.{nodeFor, SmallNode}
 use Rattle.network_draft.specs.Store.{NodeNumbers, NumbersStored, Marked}
-use Rattle.network_draft.specs.Represents.{Represents, targetAt, targetsOf}
+use Rattle.network_draft.specs.Represents.{Arrays, arrays, Represents, targetAt, targetsOf}
 use Rattle.network_line.proofs.Bounds.{by-count}
 use Rattle.network_draft.proofs.Nodes.{node-by-fields}
 use Rattle.network_draft.proofs.Representing.{steers-more, represented-count, represented-targets, kept-node}
@@ -75,8 +75,8 @@ bare d n s e = go (s .stage)
 
 -- ---- the longer draft
 
-module _ (ns bits known steering held : List ℕ) (t : Summary) (d : Draft) (n : ℕ) (w : Represents ns bits known steering held t d n) (x : Node) (form : GoodForm x)
-    (numbers ns′ steering′ : List ℕ) (are-numbers : NodeNumbers x numbers) (stored : NumbersStored ns (t .count + 1) numbers ns′) (marked : Marked steering x steering′)
+module _ {a : Arrays} {t : Summary} {d : Draft} {n : ℕ} (w : Represents a t d n) (x : Node) (form : GoodForm x)
+    (numbers ns′ steering′ : List ℕ) (are-numbers : NodeNumbers x numbers) (stored : NumbersStored (a .nodes) (t .count + 1) numbers ns′) (marked : Marked (a .steering) x steering′)
     (no : hasOut d ≡ false) (inside : outside n x ≡ false) (few : t .count < 128) (short : totalBits (d .nodes) + lenOf x ≤ 4000) where
   abbrev t′ : Summary
   t′ = record {
@@ -102,24 +102,24 @@ module _ (ns bits known steering held : List ℕ) (t : Summary) (d : Draft) (n :
       let f : 1 + t .count ≡ t .count + 1 = omega arith in
       ap (nodesOf ns′) e ∙ tabulate-snoc (nodeAt ns′) 1 (t .count)
       ∙ ap (λ (l : List Node). l ++ nodeAt ns′ (1 + t .count) ∷ [])
-      (tabulate-cong (nodeAt ns′) (nodeAt ns) 1 (t .count) (λ k l. kept-node ns bits known steering held t d n w numbers ns′ (t .count + 1) stored (omega arith) (1 + k) (omega arith) (omega arith)) ∙ w .nodes-are)
+      (tabulate-cong (nodeAt ns′) (nodeAt (a .nodes)) 1 (t .count) (λ k l. kept-node w numbers ns′ (t .count + 1) stored (omega arith) (1 + k) (omega arith) (omega arith)) ∙ w .nodes-are)
       ∙ ap (λ (y : Node). d .nodes ++ y ∷ []) (ap (nodeAt ns′) f ∙ stored-node)
 
   no-targets′ : targetsOf ns′ t′ ≡ d .targets
   no-targets′ =
-      let e : t .«target_count» ≡ 0 = sym (represented-targets ns bits known steering held t d n w) ∙ ap length (its .no-targets) in
+      let e : t .«target_count» ≡ 0 = sym (represented-targets w) ∙ ap length (its .no-targets) in
       ap (tabulate (targetAt ns′ t′) 0) e ∙ sym (its .no-targets)
 
-  flag : (s : ℕ) → s ≤ 128 → eqb (getD held s 0) 1 ≡ false
+  flag : (s : ℕ) → s ≤ 128 → eqb (getD (a .held) s 0) 1 ≡ false
   unfolding isHeld
   flag s l = w .held-is s l ∙ ap (λ (hs : List Held). isHeld hs s) (its .no-holds)
 
   start′ : (s : ℕ) → s ≤ 128 → (other : List Trit)
-      → heldOr other (d .holds) s ≡ cond (eqb (getD held s 0) 1) (tritsOf (lenOf (nodeAt ns′ s)) (getD bits s 0) (getD known s 0)) other
+      → heldOr other (d .holds) s ≡ cond (eqb (getD (a .held) s 0) 1) (tritsOf (lenOf (nodeAt ns′ s)) (getD (a .bits) s 0) (getD (a .known) s 0)) other
   unfolding heldOr
-  start′ s l other = ap (λ (hs : List Held). heldOr other hs s) (its .no-holds) ∙ ap (λ (b : Bool). cond b (tritsOf (lenOf (nodeAt ns′ s)) (getD bits s 0) (getD known s 0)) other) (sym (flag s l))
+  start′ s l other = ap (λ (hs : List Held). heldOr other hs s) (its .no-holds) ∙ ap (λ (b : Bool). cond b (tritsOf (lenOf (nodeAt ns′ s)) (getD (a .bits) s 0) (getD (a .known) s 0)) other) (sym (flag s l))
 
-  pub longer : Represents ns′ bits known steering′ held t′ (withNode d x) (suc n)
+  pub longer : Represents (arrays ns′ (a .bits) (a .known) steering′ (a .held)) t′ (withNode d x) (suc n)
   longer = record {
     sized = record {
       nodes = stored .size ∙ w .sized .nodes;
@@ -144,5 +144,5 @@ module _ (ns bits known steering held : List ℕ) (t : Summary) (d : Draft) (n :
     steering-small = marked .small (w .steering-small);
     held-is = w .held-is;
     start-is = start′;
-    sound = sound-node d (withNode d x) n x form (w .sound) (node-added d n x no inside (omega (arith, represented-count ns bits known steering held t d n w)) short);
+    sound = sound-node d (withNode d x) n x form (w .sound) (node-added d n x no inside (omega (arith, represented-count w)) short);
   }

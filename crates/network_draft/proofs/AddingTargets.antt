@@ -23,7 +23,7 @@ use Rattle.network_words.specs.Words.{wordWidth, wordBit}
 use Rattle.network_path.specs.Layout.{nodeAt}
 use Rattle.network_draft.specs.declared.store.Summary.{Summary}
 use Rattle.network_draft.specs.declared.add.Refusal.{Refusal}
-use Rattle.network_draft.specs.Represents.{Represents, targetAt, targetsOf, targetFor, sameWord, Agrees}
+use Rattle.network_draft.specs.Represents.{Arrays, Represents, targetAt, targetsOf, targetFor, sameWord, Agrees}
 use Rattle.network_draft.specs.Added.{IsWord}
 use Rattle.network_draft.proofs.Representing.{represented-short}
 
@@ -135,7 +135,7 @@ module _ (all : List Node) (short : (s : ℕ) → lenOf (at all s noNode) ≤ wo
       go true q g r = let b = node-bit x s (f 0 (omega arith)) q in record { b = b .0; is = here x ns s (b .0) (b .1); small = b .2 }
       go false q g r = let b = r g in record { b = b .b; is = there x ns s (b .b) (b .is); small = b .small }
 
-module _ (ns bits known steering held : List ℕ) (t : Summary) (d : Draft) (n : ℕ) (w : Represents ns bits known steering held t d n) (out : hasOut d ≡ true) where
+module _ {a : Arrays} {t : Summary} {d : Draft} {n : ℕ} (w : Represents a t d n) (out : hasOut d ≡ true) where
   no-first : (i : ℕ) → i < length (d .nodes) → badAddress (d .nodes) (getD (d .nodes) i noNode) ≡ false
   no-first = go (w .sound .stage)
     where
@@ -143,21 +143,21 @@ module _ (ns bits known steering held : List ℕ) (t : Summary) (d : Draft) (n :
       go (no-out p m hs ts) = absurd (true-false (sym out ∙ ap isSome p))
       go (behind-out k p z y hs ts) = no-bad (d .nodes) (d .nodes) 1 y
 
-  pub not-steering : (s : ℕ) → s ≤ 128 → getD steering s 0 ≡ 0 → isSteering (d .nodes) s ≡ false
+  pub not-steering : (s : ℕ) → s ≤ 128 → getD (a .steering) s 0 ≡ 0 → isSteering (d .nodes) s ≡ false
   not-steering s l e = go (isSteering (d .nodes) s) refl
     where
       go : (b : Bool) → isSteering (d .nodes) s ≡ b → isSteering (d .nodes) s ≡ false
       go false q = q
       go true q =
-          let b = find-bit (d .nodes) (represented-short ns bits known steering held t d n w) (d .nodes) s no-first q in
-          absurd (true-false (sym (b .is) ∙ sym (w .steering-is s (b .b) l (b .small)) ∙ zero-bit (getD steering s 0) (b .b) e))
+          let b = find-bit (d .nodes) (represented-short w) (d .nodes) s no-first q in
+          absurd (true-false (sym (b .is) ∙ sym (w .steering-is s (b .b) l (b .small)) ∙ zero-bit (getD (a .steering) s 0) (b .b) e))
 
-  pub is-steering : (s : ℕ) → s ≤ 128 → (getD steering s 0 ≡ 0 → ⊥) → isSteering (d .nodes) s ≡ true
+  pub is-steering : (s : ℕ) → s ≤ 128 → (getD (a .steering) s 0 ≡ 0 → ⊥) → isSteering (d .nodes) s ≡ true
   is-steering s l ne = go (isSteering (d .nodes) s) refl
     where
       go : (b : Bool) → isSteering (d .nodes) s ≡ b → isSteering (d .nodes) s ≡ true
       go true q = q
-      go false q = absurd (ne (word-zero wordWidth (getD steering s 0) (w .steering-small s) (λ b m. w .steering-is s b l m ∙ unsteered-bits (d .nodes) s b q)))
+      go false q = absurd (ne (word-zero wordWidth (getD (a .steering) s 0) (w .steering-small s) (λ b m. w .steering-is s b l m ∙ unsteered-bits (d .nodes) s b q)))
 
 -- ---- the refusals
 
@@ -194,8 +194,8 @@ segment-of false s bs = refl
 
 -- ---- one target more
 
-module _ (ns bits known steering held : List ℕ) (t : Summary) (d : Draft) (n : ℕ) (w : Represents ns bits known steering held t d n)
-    (s : ℕ) (k : Bool) (word : ℕ) (bs : List Bool) (is-word : IsWord ns k s word bs) (room : t .«target_count» < 4)
+module _ {a : Arrays} {t : Summary} {d : Draft} {n : ℕ} (w : Represents a t d n)
+    (s : ℕ) (k : Bool) (word : ℕ) (bs : List Bool) (is-word : IsWord (a .nodes) k s word bs) (room : t .«target_count» < 4)
     (is : addTarget d n (targetFor k s bs) ≡ ok (withTarget d (targetFor k s bs))) where
   abbrev c : ℕ
   c = t .«target_count»
@@ -212,12 +212,12 @@ module _ (ns bits known steering held : List ℕ) (t : Summary) (d : Draft) (n :
     «target_bits» = set (t .«target_bits») c word;
   }
 
-  old-target : (i : ℕ) → i < c → targetAt ns t′ i ≡ targetAt ns t i
+  old-target : (i : ℕ) → i < c → targetAt (a .nodes) t′ i ≡ targetAt (a .nodes) t i
   old-target i l =
       let ne : i ≡ c → ⊥ = λ z. omega arith in
       rw (getD-set-other (t .«target_segment») c i s 0 ne, getD-set-other (t .«target_write») c i (cond k 1 0) 0 ne, getD-set-other (t .«target_bits») c i word 0 ne)
 
-  new-target : targetAt ns t′ c ≡ targetFor k s bs
+  new-target : targetAt (a .nodes) t′ c ≡ targetFor k s bs
   new-target =
       rw (
         getD-set-same (t .«target_segment») c s 0 (omega (arith, w .in-limits .segments)),
@@ -225,19 +225,19 @@ module _ (ns bits known steering held : List ℕ) (t : Summary) (d : Draft) (n :
         getD-set-same (t .«target_bits») c word 0 (omega (arith, w .in-limits .bits)),
       ) (go k is-word)
     where
-      go : (k : Bool) → IsWord ns k s word bs → cond (eqb (cond k 1 0) 1) (write s (tabulate (wordBit word) 0 (lenOf (nodeAt ns s)))) (read s) ≡ targetFor k s bs
+      go : (k : Bool) → IsWord (a .nodes) k s word bs → cond (eqb (cond k 1 0) 1) (write s (tabulate (wordBit word) 0 (lenOf (nodeAt (a .nodes) s)))) (read s) ≡ targetFor k s bs
       go true f = ap (write s) (f refl)
       go false f = refl
 
-  targets′ : targetsOf ns t′ ≡ d .targets ++ targetFor k s bs ∷ []
+  targets′ : targetsOf (a .nodes) t′ ≡ d .targets ++ targetFor k s bs ∷ []
   targets′ =
       let e : c + 1 ≡ suc c = omega arith in
-      ap (tabulate (targetAt ns t′) 0) e ∙ tabulate-snoc (targetAt ns t′) 0 c
-      ∙ ap (λ (l : List Target). l ++ targetAt ns t′ (0 + c) ∷ [])
-      (tabulate-cong (targetAt ns t′) (targetAt ns t) 0 c (λ x l. let z : 0 + x < c = omega arith in old-target (0 + x) z) ∙ w .targets-are)
-      ∙ ap (λ (x : Target). d .targets ++ x ∷ []) (ap (targetAt ns t′) (zero-add c) ∙ new-target)
+      ap (tabulate (targetAt (a .nodes) t′) 0) e ∙ tabulate-snoc (targetAt (a .nodes) t′) 0 c
+      ∙ ap (λ (l : List Target). l ++ targetAt (a .nodes) t′ (0 + c) ∷ [])
+      (tabulate-cong (targetAt (a .nodes) t′) (targetAt (a .nodes) t) 0 c (λ x l. let z : 0 + x < c = omega arith in old-target (0 + x) z) ∙ w .targets-are)
+      ∙ ap (λ (x : Target). d .targets ++ x ∷ []) (ap (targetAt (a .nodes) t′) (zero-add c) ∙ new-target)
 
-  pub with-target : Represents ns bits known steering held t′ (withTarget d (targetFor k s bs)) (suc n)
+  pub with-target : Represents a t′ (withTarget d (targetFor k s bs)) (suc n)
   with-target = record {
     sized = w .sized;
     in-limits = record {

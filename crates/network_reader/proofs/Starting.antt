@@ -17,7 +17,7 @@ use Rattle.network_words.specs.Words.{wordWidth, allKnown, tritsOf}
 use Rattle.network_path.specs.Layout.{nodeAt, configOf}
 use Rattle.network_words.proofs.WordLaws.{trits-zero, trits-unknown}
 use Rattle.network_draft.specs.declared.store.Summary.{Summary}
-use Rattle.network_draft.specs.Represents.{Represents}
+use Rattle.network_draft.specs.Represents.{Arrays, Represents}
 use Rattle.network_draft.proofs.Representing.{represented-node, represented-short}
 use Rattle.network_draft.proofs.AddingTargets.{not-steering, is-steering}
 use Rattle.network_reader.specs.Start.{freeMarks, startBits, startMarks, OneFilled, StartFilled}
@@ -84,38 +84,38 @@ module _ (bits₀ known₀ steering held : List ℕ) where
 
 -- ---- the configuration
 
-module _ (ns bits known steering held : List ℕ) (t : Summary) (d : Draft) (n : ℕ) (w : Represents ns bits known steering held t d n) (out : hasOut d ≡ true)
-    (bits′ known′ : List ℕ) (f : StartFilled bits known steering held (t .count) bits′ known′) where
+module _ {a : Arrays} {t : Summary} {d : Draft} {n : ℕ} (w : Represents a t d n) (out : hasOut d ≡ true)
+    (bits′ known′ : List ℕ) (f : StartFilled (a .bits) (a .known) (a .steering) (a .held) (t .count) bits′ known′) where
   row : (s : ℕ) → 1 ≤ s → s ≤ t .count
-      → tritsOf (lenOf (nodeAt ns s)) (getD bits′ s 0) (getD known′ s 0) ≡ heldOr (replicate (lenOf (nodeAt ns s)) (startBit (isSteering (d .nodes) s))) (d .holds) s
+      → tritsOf (lenOf (nodeAt (a .nodes) s)) (getD bits′ s 0) (getD known′ s 0) ≡ heldOr (replicate (lenOf (nodeAt (a .nodes) s)) (startBit (isSteering (d .nodes) s))) (d .holds) s
   row s lo hi =
       let small : s ≤ 128 = omega (arith, w .in-limits .nodes-fit) in
       rw (f .words s lo hi, f .marks s lo hi)
-      (by-flag (eqb (getD held s 0) 1) (eqb (getD steering s 0) 0) refl ∙ sym (w .start-is s small (replicate (lenOf (nodeAt ns s)) (startBit (isSteering (d .nodes) s)))))
+      (by-flag (eqb (getD (a .held) s 0) 1) (eqb (getD (a .steering) s 0) 0) refl ∙ sym (w .start-is s small (replicate (lenOf (nodeAt (a .nodes) s)) (startBit (isSteering (d .nodes) s)))))
     where
       len : ℕ
-      len = lenOf (nodeAt ns s)
+      len = lenOf (nodeAt (a .nodes) s)
 
-      short : lenOf (nodeAt ns s) ≤ wordWidth
-      short = let e = ap lenOf (represented-node ns bits known steering held t d n w s lo hi) in omega (arith, represented-short ns bits known steering held t d n w s)
+      short : lenOf (nodeAt (a .nodes) s) ≤ wordWidth
+      short = let e = ap lenOf (represented-node w s lo hi) in omega (arith, represented-short w s)
 
       within : s ≤ 128
       within = omega (arith, w .in-limits .nodes-fit)
 
-      by-flag : (b z : Bool) → eqb (getD steering s 0) 0 ≡ z
-          → tritsOf (lenOf (nodeAt ns s)) (cond b (getD bits s 0) 0) (cond b (getD known s 0) (cond z 0 allKnown))
-          ≡ cond b (tritsOf (lenOf (nodeAt ns s)) (getD bits s 0) (getD known s 0)) (replicate (lenOf (nodeAt ns s)) (startBit (isSteering (d .nodes) s)))
+      by-flag : (b z : Bool) → eqb (getD (a .steering) s 0) 0 ≡ z
+          → tritsOf (lenOf (nodeAt (a .nodes) s)) (cond b (getD (a .bits) s 0) 0) (cond b (getD (a .known) s 0) (cond z 0 allKnown))
+          ≡ cond b (tritsOf (lenOf (nodeAt (a .nodes) s)) (getD (a .bits) s 0) (getD (a .known) s 0)) (replicate (lenOf (nodeAt (a .nodes) s)) (startBit (isSteering (d .nodes) s)))
       by-flag true z e = refl
       by-flag false true e =
-          trits-unknown 0 (lenOf (nodeAt ns s))
-          ∙ ap (λ (x : Bool). replicate (lenOf (nodeAt ns s)) (startBit x)) (sym (not-steering ns bits known steering held t d n w out s within (eqb-true (getD steering s 0) 0 e)))
+          trits-unknown 0 (lenOf (nodeAt (a .nodes) s))
+          ∙ ap (λ (x : Bool). replicate (lenOf (nodeAt (a .nodes) s)) (startBit x)) (sym (not-steering w out s within (eqb-true (getD (a .steering) s 0) 0 e)))
       by-flag false false e =
-          trits-zero wordWidth (lenOf (nodeAt ns s)) short
-          ∙ ap (λ (x : Bool). replicate (lenOf (nodeAt ns s)) (startBit x)) (sym (is-steering ns bits known steering held t d n w out s within (eqb-false (getD steering s 0) 0 e)))
+          trits-zero wordWidth (lenOf (nodeAt (a .nodes) s)) short
+          ∙ ap (λ (x : Bool). replicate (lenOf (nodeAt (a .nodes) s)) (startBit x)) (sym (is-steering w out s within (eqb-false (getD (a .steering) s 0) 0 e)))
 
-  pub start-config : configOf ns bits′ known′ (t .count) ≡ startOf (d .nodes) (d .holds)
+  pub start-config : configOf (a .nodes) bits′ known′ (t .count) ≡ startOf (d .nodes) (d .holds)
   unfolding configOf startOf
   start-config =
-      tabulate-cong _ (λ k. heldOr (replicate (lenOf (nodeAt ns k)) (startBit (isSteering (d .nodes) k))) (d .holds) k) 1 (t .count) (λ x l. row (1 + x) (omega arith) (omega arith))
-      ∙ sym (mapFrom-tabulate (λ s n. heldOr (replicate (lenOf n) (startBit (isSteering (d .nodes) s))) (d .holds) s) (nodeAt ns) 1 (t .count))
+      tabulate-cong _ (λ k. heldOr (replicate (lenOf (nodeAt (a .nodes) k)) (startBit (isSteering (d .nodes) k))) (d .holds) k) 1 (t .count) (λ x l. row (1 + x) (omega arith) (omega arith))
+      ∙ sym (mapFrom-tabulate (λ s n. heldOr (replicate (lenOf n) (startBit (isSteering (d .nodes) s))) (d .holds) s) (nodeAt (a .nodes)) 1 (t .count))
       ∙ ap (mapFrom 1 (λ s n. heldOr (replicate (lenOf n) (startBit (isSteering (d .nodes) s))) (d .holds) s)) (w .nodes-are)
