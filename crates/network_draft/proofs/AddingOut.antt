@@ -59,12 +59,16 @@ module _ {a : Arrays} {t : Summary} {d : Draft} {n : ℕ} (w : Represents a t d 
       bits = w .in-limits .bits;
     };
     nodes-are = w .nodes-are;
+    numbers-are = w .numbers-are;
     total-is = w .total-is;
     out-is = refl;
     targets-are = w .targets-are;
+    numbers-of-targets = w .numbers-of-targets;
     steering-is = w .steering-is;
     steering-small = w .steering-small;
     held-is = w .held-is;
     start-is = w .start-is;
+    bits-are = w .bits-are;
+    known-are = w .known-are;
     sound = sound-out d (withOut d k) n k (w .sound) is;
   }

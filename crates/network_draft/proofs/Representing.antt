@@ -32,6 +32,18 @@ agrees-refused D a r number place e f = subst (λ (x : Result Draft). Agrees D x
 pub agrees-ok : (D : Draft → Type 0) (a : Result Draft) (r : Refusal) (d : Draft) → a ≡ ok d → r ≡ Nothing → D d → Agrees D a r
 agrees-ok D a r d e f x = subst (λ (y : Result Draft). Agrees D y r) (sym e) (f, x)
 
+-- ---- one element more
+
+pub snoc-last : {A : Type 0} (l : List A) (x d : A) → getD (l ++ x ∷ []) (length l) d ≡ x
+snoc-last [] x d = refl
+snoc-last (y ∷ l) x d = snoc-last l x d
+
+pub snoc-other : {A : Type 0} (l : List A) (x d : A) (n : ℕ) → (n ≡ length l → ⊥) → getD (l ++ x ∷ []) n d ≡ getD l n d
+snoc-other [] x d zero ne = absurd (ne refl)
+snoc-other [] x d (suc n) ne = refl
+snoc-other (y ∷ l) x d zero ne = refl
+snoc-other (y ∷ l) x d (suc n) ne = snoc-other l x d n (λ z. ne (ap suc z))
+
 -- ---- nodes
 
 -- steering bits of one node more

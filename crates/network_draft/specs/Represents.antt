@@ -3,7 +3,7 @@
 use mathlib.Core.Path.{_≡_}
 use mathlib.Core.Bool.{Bool, true, false, cond, _&&_, Bool·beq}
 use mathlib.Core.Option.{Option, none, some}
-use mathlib.Core.List.{List}
+use mathlib.Core.List.{List, []}
 use Prim.Native.Nat.{ℕ, zero, suc, _≤_, _<_}
 use lib.ListN.{length, getD, replicate}
 use lib.Dec.{eqb}
@@ -13,9 +13,10 @@ use Rattle.model.specs.Text.{Trit}
 use Rattle.model.specs.Network.{Target, read, write, lenOf, totalBits, tabulate, steers, heldOr}
 use Rattle.model.specs.NetworkText.{Draft, isHeld, isTarget}
 use Rattle.model.specs.Drafted.{GoodForm, Sound}
-use Rattle.network_words.specs.Words.{wordWidth, wordBit, tritsOf}
+use Rattle.network_words.specs.Words.{wordWidth, wordBit, tritsOf, bitsWord, knownWord}
 use Rattle.network_path.specs.Layout.{nodeAt, nodesOf, nodeFields, nodeNumbers}
 use Rattle.network_draft.specs.Store.{Small}
+use Rattle.network_draft.specs.Numbers.{NodesStored, TargetsStored}
 use Rattle.network_draft.specs.declared.store.Summary.{Summary}
 use Rattle.network_draft.specs.declared.add.Refusal.{Refusal}
 use Rattle.network_draft.specs.declared.add.Refusal.the-variants.{Nothing, Refused}
@@ -92,9 +93,11 @@ pub record Represents (a : Arrays) (t : Summary) (d : Draft) (n : ℕ) : Type 0 
   pub sized : Sized a
   pub in-limits : InLimits t
   pub nodes-are : nodesOf (a .nodes) (t .count) ≡ d .nodes
+  pub numbers-are : NodesStored (a .nodes) (d .nodes)
   pub total-is : t .total ≡ totalBits (d .nodes)
   pub out-is : feedsOf (t .«has_out») (t .out) ≡ d .feeds
   pub targets-are : targetsOf (a .nodes) t ≡ d .targets
+  pub numbers-of-targets : TargetsStored t (d .targets)
   -- bit b of a segment's word of steering bits
   pub steering-is : (s b : ℕ) → s ≤ maxNodes → b < wordWidth → wordBit (getD (a .steering) s 0) b ≡ steers (d .nodes) s b
   pub steering-small : Small (a .steering)
@@ -102,6 +105,9 @@ pub record Represents (a : Arrays) (t : Summary) (d : Draft) (n : ℕ) : Type 0 
   pub held-is : (s : ℕ) → s ≤ maxNodes → eqb (getD (a .held) s 0) 1 ≡ isHeld (d .holds) s
   pub start-is : (s : ℕ) → s ≤ maxNodes → (other : List Trit)
       → heldOr other (d .holds) s ≡ cond (eqb (getD (a .held) s 0) 1) (tritsOf (lenOf (nodeAt (a .nodes) s)) (getD (a .bits) s 0) (getD (a .known) s 0)) other
+  -- the words of start bits; both are 0 without a `hold` line
+  pub bits-are : (s : ℕ) → getD (a .bits) s 0 ≡ bitsWord (heldOr [] (d .holds) s)
+  pub known-are : (s : ℕ) → getD (a .known) s 0 ≡ knownWord (heldOr [] (d .holds) s)
   pub sound : Sound d n
 
 abbrev pub emptySummary : Summary

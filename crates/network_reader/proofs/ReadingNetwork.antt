@@ -3,20 +3,20 @@
 use mathlib.Core.Path.{_≡_, refl, sym, ap, _∙_, subst}
 use mathlib.Core.Bool.{Bool, true, false}
 use mathlib.Core.Option.{some}
-use mathlib.Core.List.{List}
-use Prim.Native.Nat.{ℕ, _≤_, _<_}
+use mathlib.Core.List.{List, []}
+use Prim.Native.Nat.{ℕ, zero, suc, _+_, _*_, _≤_, _<_}
 use native.Mathlib.Omega.{arith}
 use lib.ListN.{length, getD, take, replicate, length-replicate}
 use lib.Dec.{eqb}
 use borrow.Author.Tests.{lt-ltb, le-ltb}
 use Rattle.model.specs.Result.{Result, ok, refused, refuseIf}
 use Rattle.model.specs.Text.{Bytes, parts, lineEnd}
-use Rattle.model.specs.Network.{Node, Config, Target, Network as ModelNetwork, totalBits, steers, heldOr, startOf}
+use Rattle.model.specs.Network.{Node, Config, Target, at, noNode, Network as ModelNetwork, totalBits, steers, heldOr, startOf}
 use Rattle.model.specs.Path.{Walk, walk, pathOf, pathIn, pathLength}
-use Rattle.model.specs.NetworkText.{Draft, noLines, isHeld, networkOf, ifStarts, finish, readLines, readNetwork}
+use Rattle.model.specs.NetworkText.{Draft, hasOut, noLines, isHeld, networkOf, ifStarts, finish, readLines, readNetwork}
 use Rattle.model.proofs.Accepted.{draft-formed}
 use Rattle.model.proofs.Reading.{sound-start}
-use Rattle.network_words.specs.Words.{wordWidth, wordBit}
+use Rattle.network_words.specs.Words.{wordWidth, wordBit, wordOf}
 use Rattle.network_path.specs.Layout.{nodesOf, configOf, scanPath}
 use Rattle.network_path.specs.Answers.{FindsPath, Walkable, told}
 use Rattle.network_path.specs.declared.walk.Walked.{Walked}
@@ -32,6 +32,7 @@ use Rattle.network_reader.specs.declared.reader.Ending.the-variants.{Ref
 use Rattle.network_reader.specs.declared.reader.Network.{Network}
 use Rattle.network_reader.specs.declared.reader.Acceptance.the-variants.{Accepted, Refused as Rejected}
 use Rattle.network_reader.specs.declared.reader.Reading.{Reading}
+use Rattle.network_draft.specs.Numbers.{numbersFor, TargetsStored}
 use Rattle.network_draft.specs.Represents.{feedsOf, Short, Arrays, arrays, Represents, emptySummary}
 use Rattle.network_reader.specs.Start.{StartFilled}
 use Rattle.network_reader.specs.Counts.{countFrom}
@@ -40,11 +41,16 @@ use Rattle.model.proofs.Lists.{zero-at}
 use Rattle.network_draft.proofs.Representing.{represented-out, represented-words}
 use Rattle.network_reader.proofs.Counting.{counts-steering}
 use Rattle.network_reader.proofs.Starting.{start-config}
+use Rattle.network_reader.proofs.StartWords.{start-bits, start-known}
 
 -- ---- no lines
 
+no-numbers : (k i : ℕ) → 0 ≡ getD (numbersFor (at [] k noNode)) i 0
+no-numbers zero i = sym (zero-at 8 i)
+no-numbers (suc k) i = sym (zero-at 8 i)
+
 pub represents-none : Represents (arrays (replicate 1032 0) (replicate 129 0) (replicate 129 0) (replicate 129 0) (replicate 129 0)) emptySummary noLines 1
-unfolding totalBits steers isHeld heldOr
+unfolding totalBits steers isHeld heldOr wordOf
 represents-none = record {
   sized = record {
     nodes = length-replicate {A = ℕ} 1032 0;
@@ -55,13 +61,17 @@ represents-none = record {
   };
   in-limits = record { nodes-fit = omega arith; bits-fit = omega arith; targets-fit = omega arith; segments = refl; words = refl; bits = refl };
   nodes-are = refl;
+  numbers-are = λ k i h. zero-at 1032 (k * 8 + i) ∙ no-numbers k i;
   total-is = refl;
   out-is = refl;
   targets-are = refl;
+  numbers-of-targets = λ i. record { segment-is = zero-at 4 i; flag-is = zero-at 4 i; word-is = zero-at 4 i };
   steering-is = λ s b l m. ap (λ (x : ℕ). wordBit x b) (zero-at 129 s) ∙ zero-bit b;
   steering-small = λ r. rw (zero-at 129 r) (omega arith);
   held-is = λ s l. ap (λ (x : ℕ). eqb x 1) (zero-at 129 s);
   start-is = λ s l other. rw (zero-at 129 s) refl;
+  bits-are = λ s. zero-at 129 s;
+  known-are = λ s. zero-at 129 s;
   sound = sound-start;
 }
 
@@ -121,7 +131,7 @@ module _ (a : Arrays) (r : Lines) (x : Result (ℕ × Draft)) (lines : LinesAre 
     pub no-out-line : r .summary .«has_out» ≡ false → finishOf x ≡ refused 4 (r .next)
     no-out-line e = w .finishes ∙ ap (finish (r .next) (w .draft)) (sym (w .represented .out-is) ∙ ap (λ (b : Bool). feedsOf b (r .summary .out)) e)
 
-    module _ (e : r .summary .«has_out» ≡ true) (bits′ known′ : List ℕ) (f : StartFilled (a .bits) (a .known) (a .steering) (a .held) (r .summary .count) bits′ known′) where
+    module _ (e : r .summary .«has_out» ≡ true) (bits′ known′ : List ℕ) (f : StartFilled a (r .summary .count) bits′ known′) where
       abbrev u : Uncounted
       u = uncounted (a .nodes) bits′ known′ (a .steering) (r .summary)
 
@@ -157,9 +167,11 @@ module _ {u : Uncounted} {d : Draft} {n : ℕ} (b : Begun u d n) where
   pub start-short : (y .count ≤ 128) × Short ns (y .count)
   start-short = (w .in-limits .nodes-fit, represented-words w)
 
+  its-out : hasOut d ≡ true
+  its-out = represented-out w ∙ b .fed
+
   start-is : configOf ns (u .bits) (u .known) (y .count) ≡ startOf (d .nodes) (d .holds)
-  start-is =
-      start-config w (represented-out w ∙ b .fed) (u .bits) (u .known) (b .filled)
+  start-is = start-config w its-out (b .filled)
 
   module _ (r : Walked) (way : List ℕ) (found : FindsPath ns (u .bits) (u .known) (y .out) r way) where
     start-walk : walk (networkOf d (y .out)) (networkOf d (y .out) .start) ≡ told ns way r
@@ -200,6 +212,11 @@ module _ {u : Uncounted} {d : Draft} {n : ℕ} (b : Begun u d n) where
           known-size = b .filled .known-size ∙ w .sized .known-words;
           steering-size = w .sized .steering-words;
           in-limits = w .in-limits;
+          has-out = b .fed;
+          numbers-are = λ k i h. w .numbers-are k i h ∙ ap (λ (x : List Node). getD (numbersFor (at x k noNode)) i 0) (sym (w .nodes-are));
+          bits-are = start-bits w its-out (b .filled);
+          known-are = start-known w its-out (b .filled);
+          numbers-of-targets = subst (TargetsStored y) (sym (w .targets-are)) (w .numbers-of-targets);
           steering-is = same-steering;
           steering-small = w .steering-small;
           totals = w .total-is ∙ ap totalBits (sym (w .nodes-are));

@@ -2,16 +2,16 @@
 -- Assumes nothing.
 use mathlib.Core.Path.{_≡_}
 use mathlib.Core.Bool.{true}
-use mathlib.Core.List.{List}
+use mathlib.Core.List.{List, []}
 use Prim.Native.Nat.{ℕ, suc, _≤_, _<_}
 use lib.ListN.{length, getD, replicate}
 use Rattle.model.specs.Limits.{maxNodes}
 use Rattle.model.specs.Result.{Result, ok, refused, andThen}
 use Rattle.model.specs.Text.{Bytes, parts, lineEnd}
-use Rattle.model.specs.Network.{Network as ModelNetwork, totalBits, steers, steeringBits}
+use Rattle.model.specs.Network.{Network as ModelNetwork, at, totalBits, steers, steeringBits}
 use Rattle.model.specs.Path.{pathIn, pathLength}
 use Rattle.model.specs.NetworkText.{Draft, noLines, lineOf, addLine, readLines, finish, readNetwork}
-use Rattle.network_words.specs.Words.{wordWidth, wordBit}
+use Rattle.network_words.specs.Words.{wordWidth, wordBit, bitsWord, knownWord}
 use Rattle.network_path.specs.Layout.{nodesOf, configOf, nodeFields, nodeNumbers}
 use Rattle.network_draft.specs.declared.store.Summary.{Summary}
 use Rattle.network_draft.specs.declared.add.Added.{Added}
@@ -24,6 +24,7 @@ use Rattle.network_reader.specs.declared.reader.Acceptance.{Acceptance}
 use Rattle.network_reader.specs.declared.reader.Acceptance.the-variants.{Accepted, Refused as Rejected}
 use Rattle.network_reader.specs.declared.reader.Reading.{Reading}
 use Rattle.network_draft.specs.Store.{Small}
+use Rattle.network_draft.specs.Numbers.{NodesStored, TargetsStored}
 use Rattle.network_draft.specs.Represents.{Arrays, arrays, Represents, Agrees, InLimits, targetsOf, emptySummary}
 use Rattle.network_reader.specs.Start.{StartFilled}
 
@@ -59,14 +60,19 @@ readingBy (Rejected number place) r = refused number place
 abbrev pub readingOf : Reading → Result ModelNetwork
 readingOf r = readingBy (r .verdict) (r .network)
 
--- what an accepted record has besides: array sizes, counts within them, each segment's word of steering bits, and three counts.
--- Free are the numbers of nodes above the count, bits beyond a segment's LEN, and targets beyond their count.
+-- what an accepted record has besides: the sizes of the arrays, each number of a node, each word and each number of a target by
+-- the network, and three counts. Nothing of the record is free.
 pub record RecordComplete (r : Network) : Type 0 where
   pub nodes-size : length (r .nodes) ≡ nodeFields
   pub bits-size : length (r .bits) ≡ nodeNumbers
   pub known-size : length (r .known) ≡ nodeNumbers
   pub steering-size : length (r .steering) ≡ nodeNumbers
   pub in-limits : InLimits (r .summary)
+  pub has-out : r .summary .«has_out» ≡ true
+  pub numbers-are : NodesStored (r .nodes) (recordedNetwork r .nodes)
+  pub bits-are : (s : ℕ) → getD (r .bits) s 0 ≡ bitsWord (at (recordedNetwork r .start) s [])
+  pub known-are : (s : ℕ) → getD (r .known) s 0 ≡ knownWord (at (recordedNetwork r .start) s [])
+  pub numbers-of-targets : TargetsStored (r .summary) (recordedNetwork r .targets)
   pub steering-is : (s b : ℕ) → s ≤ maxNodes → b < wordWidth → wordBit (getD (r .steering) s 0) b ≡ steers (nodesOf (r .nodes) (r .summary .count)) s b
   pub steering-small : Small (r .steering)
   pub totals : r .summary .total ≡ totalBits (recordedNetwork r .nodes)
@@ -101,7 +107,7 @@ pub record Begun (u : Uncounted) (d : Draft) (n : ℕ) : Type 0 where
   pub held : List ℕ
   pub represented : Represents (arrays (u .nodes) bits₀ known₀ (u .steering) held) (u .summary) d n
   pub fed : u .summary .«has_out» ≡ true
-  pub filled : StartFilled bits₀ known₀ (u .steering) held (u .summary .count) (u .bits) (u .known)
+  pub filled : StartFilled (arrays (u .nodes) bits₀ known₀ (u .steering) held) (u .summary .count) (u .bits) (u .known)
 
 abbrev pub StartWalked : Uncounted → Ending → Type 0
 StartWalked u r = (d : Draft) (n : ℕ) → Begun u d n → EndsAs u (finish n d (d .feeds)) r

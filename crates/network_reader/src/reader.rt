@@ -234,7 +234,7 @@ fn finish<'a>(
     if !t.has_out {
         return Ending::Refused(refusal::ORDER, lines.next);
     }
-    fill_start(bits, known, steering, held, t.count);
+    fill_start(nodes, bits, known, steering, held, t.count);
     walk_start(nodes, bits, known, steering, t)
 }
 

@@ -7,6 +7,7 @@ use Prim.Native.Nat.{_+_, _≤_, _<_}
 use Rattle.model.specs.NetworkText.{withNode}
 use mathlib.Core.Path.{refl, sym, _∙_}
 use Rattle.network_draft.proofs.AddingNodes.{node-4, node-2, node-3, bits-3, node-added, good-form, longer}
+use Rattle.network_draft.proofs.Nodes.{numbers-size}
 use Rattle.network_draft.proofs.Representing.{agrees-refused, agrees-ok, represented-out, represented-count}
 use Rattle.network_line.specs.Line.{nodeFor}
 use native.Mathlib.Omega.{arith}
@@ -84,7 +85,9 @@ numbers-of-requires : tie.Need-numbers-of-requires
 numbers-of-requires c κs = search needs
 
 store-numbers-requires : tie.Need-store-numbers-requires
-store-numbers-requires c κs = search needs
+store-numbers-requires c κs =
+    let a = c .before .before .before .before .before .before .before .before .args in
+    (search needs, search needs, rw (c .numbers-of .ensures) (numbers-size (nodeFor (a .x))))
 
 mark-steering-requires : tie.Need-mark-steering-requires
 mark-steering-requires c κs = search needs
@@ -112,8 +115,8 @@ returns-5 c =
     let short : totalBits (d .nodes) + lenOf x ≤ 4000 = omega (arith, w .total-is, at-bits-of .bits-of .ensures, at-if4 .if4 .left) in
     agrees-ok _ _ _ (withNode d x) (node-added d (a .n) x no-out inside few short) refl
     (rw (at-bits-of .bits-of .ensures)
-    (longer w x (good-form (a .x) (at-start .pre .0)) _ _ _
-    (at-numbers-of .numbers-of .ensures) (at-store-numbers .store-numbers .ensures) (c .mark-steering .ensures) no-out inside (search needs) short))
+    (longer w x (good-form (a .x) (at-start .pre .0)) _ _
+    (rw (at-numbers-of .numbers-of .ensures) at (at-store-numbers .store-numbers .ensures)) (c .mark-steering .ensures) no-out inside (search needs) short))
 
 pub add-node-spec : {M : Type 1} → statement M
 add-node-spec =

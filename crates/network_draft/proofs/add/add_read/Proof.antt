@@ -9,7 +9,7 @@ use mathlib.Core.List.{[]}
 use Rattle.model.proofs.Lists.{true-false}
 use borrow.Author.Tests.{not-true, not-false}
 use native.Mathlib.Omega.{arith}
-use mathlib.Core.Path.{sym, _∙_}
+use mathlib.Core.Path.{refl, sym, _∙_}
 use borrow.Author.Needs.{needs}
 use Rattle.network_draft.proofs.add.add_read.Statement.{statement}
 use Rattle.network_draft.proofs.add.add_read.Tie as tie
@@ -55,7 +55,7 @@ returns-3 c =
     let len = represented-len w (at-len-of .len-of .result) (a .s) (at-len-of .len-of .ensures .0) in
     let fits = with-bits w (a .s) (λ z. c .before .if2 .left (sym len ∙ z)) in
     agrees-same _ _ _ _ (target-rest d (a .n) (read (a .s)) out fits)
-    (c .add-target .ensures (a .nodes .now) bits known held [] d out fits (λ z. absurd (true-false (sym z))) w)
+    (c .add-target .ensures (a .nodes .now) bits known held [] d out fits record { is = refl; long = λ z. absurd (true-false (sym z)) } w)
 
 pub add-read-spec : {M : Type 1} → statement M
 add-read-spec =

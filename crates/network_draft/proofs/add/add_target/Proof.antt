@@ -10,7 +10,8 @@ use native.Mathlib.Omega.{arith}
 use mathlib.Core.List.{List}
 use mathlib.Core.Path.{refl, sym, ap, _∙_}
 use Rattle.network_draft.proofs.Representing.{agrees-refused, agrees-ok, represented-targets}
-use Rattle.network_draft.proofs.AddingTargets.{again-6, target-7, target-8, target-added, target-rest, segment-of, is-steering, not-steering, with-target}
+use Rattle.network_draft.proofs.AddingTargets.{again-6, target-7, target-8, target-added, target-rest, segment-of, with-target}
+use Rattle.network_draft.proofs.SteeringWords.{is-steering, not-steering}
 use borrow.Author.Needs.{needs}
 use Rattle.network_draft.proofs.add.add_target.Statement.{statement}
 use Rattle.network_draft.proofs.add.add_target.Tie as tie

@@ -1,12 +1,11 @@
 -- `network_draft::add::add_write` meets its contract: a `write` line is refused with 4 or 6 in this order as the model refuses it,
 -- and otherwise answers as `add_target` does.
 -- Assumes nothing.
-use Rattle.network_words.specs.Words.{wordBit}
 use Rattle.network_path.specs.Layout.{nodeAt}
-use Rattle.model.specs.Network.{tabulate, write, lenOf}
-use Prim.Native.Nat.{ℕ, _≤_}
+use Rattle.model.specs.Network.{write, lenOf}
+use Prim.Native.Nat.{_≤_}
 use lib.ListN.{length}
-use Rattle.network_words.proofs.FieldLaws.{bits-of-field}
+use Rattle.network_words.proofs.FieldLaws.{word-of-bits}
 use Rattle.network_line.specs.Line.{bitsIn}
 use Rattle.model.specs.Text.{bit}
 use Rattle.network_draft.proofs.BadAddresses.{node-in}
@@ -102,9 +101,10 @@ returns-4 c =
     let fits = fit w (a .s) bs (λ z. at-if2 .if2 .left (sym len ∙ z)) many in
     agrees-same _ _ _ _ (target-rest d (a .n) (write (a .s) bs) out fits)
     (c .add-target .ensures (a .nodes .now) bits known held bs d out fits
-    (λ z. ap (λ (x : ℕ). tabulate (wordBit (c .before .words-of .result .bits)) 0 x) (sym (its-length at-if3))
-    ∙ ap (λ (x : ℕ). tabulate (wordBit x) 0 (length (a .f .now))) (c .before .words-of .ensures .0)
-    ∙ bits-of-field (a .f .now) bs (bits-are bit (a .f .now) form)) w)
+    record {
+      is = c .before .words-of .ensures .0 ∙ word-of-bits (a .f .now) bs (bits-are bit (a .f .now) form);
+      long = λ z. bits-in-length bit (a .f .now) form ∙ its-length at-if3;
+    } w)
 
 pub add-write-spec : {M : Type 1} → statement M
 add-write-spec =

@@ -2,6 +2,7 @@
 -- Assumes nothing.
 use borrow.Author.Tests.{not-true, not-false}
 use borrow.Author.Needs.{needs}
+use Rattle.network_draft.proofs.Representing.{represented-words}
 use Rattle.network_reader.proofs.ReadingNetwork.{lines-rejected, lines-read, no-out-line, begun, start-ends}
 use Rattle.network_reader.proofs.reader.finish.Statement.{statement}
 use Rattle.network_reader.proofs.reader.finish.Tie as tie
@@ -25,7 +26,7 @@ fill-start-requires c κs =
     let at-told = c .before .before .before .before .before in
     let p = at-told .before .before .pre in
     let w = lines-read _ _ (p .0) (p .1) (at-told .enum-told .given .1) .represented in
-    (w .in-limits .nodes-fit, w .sized .bit-words, w .sized .known-words)
+    (w .in-limits .nodes-fit, represented-words w, w .sized .bit-words, w .sized .known-words)
 
 walk-start-requires : tie.Need-walk-start-requires
 walk-start-requires c κs =
