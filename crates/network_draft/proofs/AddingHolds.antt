@@ -3,7 +3,7 @@
 use mathlib.Core.Path.{_≡_, refl, sym, ap, _∙_}
 use mathlib.Core.Bool.{Bool, true, false, cond, _||_}
 use mathlib.Core.Option.{Option, some}
-use mathlib.Core.List.{List, [], _∷_, _++_}
+use mathlib.Core.List.{List, [], _∷_, _++_, map}
 use Prim.Native.Nat.{ℕ, zero, suc, _≤_, _<_}
 use native.Mathlib.Omega.{arith}
 use native.Mathlib.Decide.{decLt}
@@ -17,13 +17,13 @@ use Rattle.model.specs.Network.{Node, segment, multiplexer, at, noNode, isSegme
 use Rattle.model.specs.NetworkText.{Draft, hasOut, isSome, fitsBits, isHeld, addHold, withHold, outside}
 use Rattle.model.proofs.Lists.{or-parts, true-false, or-false-right, or-assoc, and-false-right}
 use Rattle.model.proofs.Reading.{sound-hold}
-use Rattle.network_words.specs.Words.{tritsOf, byteBit, wordFrom, byteKnown}
+use Rattle.network_words.specs.Words.{tritsOf, wordOf, isOne, isKnown, byteBit, wordFrom, byteKnown}
 use Rattle.network_path.specs.Layout.{nodeAt}
-use Rattle.network_words.proofs.FieldLaws.{trits-of-field}
+use Rattle.network_words.proofs.FieldLaws.{trits-of-field, bits-word-of, known-word-of}
 use Rattle.text.proofs.Bits.{is-some, from-length}
 use Rattle.network_draft.specs.declared.store.Summary.{Summary}
 use Rattle.network_line.specs.Line.{bitsIn, valueOr}
-use Rattle.network_draft.specs.Represents.{Represents}
+use Rattle.network_draft.specs.Represents.{Arrays, arrays, Represents}
 
 -- ---- the bits of a field of good form
 
@@ -35,7 +35,7 @@ bits-in-length one f e = omega (arith, from-length one f [] (bitsIn one f) (bits
 
 -- ---- segments of a draft
 
-module _ (ns bits known steering held : List ℕ) (t : Summary) (d : Draft) (n : ℕ) (w : Represents ns bits known steering held t d n) where
+module _ {a : Arrays} {t : Summary} {d : Draft} {n : ℕ} (w : Represents a t d n) where
   -- a node without bits is no segment
   segment-long : (k : ℕ) (x : Node) → outside k x ≡ false → lenOf x ≡ 0 → isSegment x ≡ false
   segment-long k (segment from len s) e z = let a = or-parts (leb k from || ltb len 1) (ltb 32 len) e in let b = or-parts (leb k from) (ltb len 1) (a .0) in absurd (let l = ltb-false len 1 (b .1) in omega arith)
@@ -100,7 +100,7 @@ unfolding heldOr
 start-more other [] s bs r = refl
 start-more other (h ∷ hs) s bs r = ap (cond (eqb (h .segmentNumber) r) (h .bits)) (start-more other hs s bs r)
 
-not-held : (other : List Trit) (hs : List Held) (s : ℕ) → isHeld hs s ≡ false → heldOr other hs s ≡ other
+pub not-held : (other : List Trit) (hs : List Held) (s : ℕ) → isHeld hs s ≡ false → heldOr other hs s ≡ other
 unfolding isHeld heldOr
 not-held other [] s e = refl
 not-held other (h ∷ hs) s e = go (eqb (h .segmentNumber) s) e (λ f. not-held other hs s f)
@@ -109,17 +109,17 @@ not-held other (h ∷ hs) s e = go (eqb (h .segmentNumber) s) e (λ f. not-held 
     go true f g = absurd (true-false f)
     go false f g = g f
 
-module _ (ns bits known steering held : List ℕ) (t : Summary) (d : Draft) (n : ℕ) (w : Represents ns bits known steering held t d n)
-    (s : ℕ) (f : Bytes) (form : isSome (bitsFrom trit [] f) ≡ true) (in-range : s ≤ 128) (len : length f ≡ lenOf (nodeAt ns s))
+module _ {a : Arrays} {t : Summary} {d : Draft} {n : ℕ} (w : Represents a t d n)
+    (s : ℕ) (f : Bytes) (form : isSome (bitsFrom trit [] f) ≡ true) (in-range : s ≤ 128) (len : length f ≡ lenOf (nodeAt (a .nodes) s))
     (fresh : isHeld (d .holds) s ≡ false) (is : addHold d n s (bitsIn trit f) ≡ ok (withHold d s (bitsIn trit f))) where
   abbrev bits′ : List ℕ
-  bits′ = set bits s (wordFrom byteBit 0 f)
+  bits′ = set (a .bits) s (wordFrom byteBit 0 f)
 
   abbrev known′ : List ℕ
-  known′ = set known s (wordFrom byteKnown 0 f)
+  known′ = set (a .known) s (wordFrom byteKnown 0 f)
 
   abbrev held′ : List ℕ
-  held′ = set held s 1
+  held′ = set (a .held) s 1
 
   flags : (r : ℕ) → r ≤ 128 → eqb (getD held′ r 0) 1 ≡ isHeld (d .holds ++ one s (bitsIn trit f) ∷ []) r
   flags r l = go (eqb s r) refl ∙ sym (held-more (d .holds) s (bitsIn trit f) r)
@@ -130,47 +130,60 @@ module _ (ns bits known steering held : List ℕ) (t : Summary) (d : Draft) (n :
 
       go : (b : Bool) → eqb s r ≡ b → eqb (getD held′ r 0) 1 ≡ (isHeld (d .holds) r || b)
       go true e =
-          ap (λ (x : ℕ). eqb (getD held′ x 0) 1) (sym (eqb-true s r e)) ∙ ap (λ (x : ℕ). eqb x 1) (getD-set-same held s 1 0 (omega (arith, w .sized .held-flags)))
+          ap (λ (x : ℕ). eqb (getD held′ x 0) 1) (sym (eqb-true s r e)) ∙ ap (λ (x : ℕ). eqb x 1) (getD-set-same (a .held) s 1 0 (omega (arith, w .sized .held-flags)))
           ∙ or-one (isHeld (d .holds) r)
-      go false e = ap (λ (x : ℕ). eqb x 1) (getD-set-other held s r 1 0 (λ z. eqb-false s r e (sym z))) ∙ w .held-is r l ∙ sym (or-false-right (isHeld (d .holds) r))
+      go false e = ap (λ (x : ℕ). eqb x 1) (getD-set-other (a .held) s r 1 0 (λ z. eqb-false s r e (sym z))) ∙ w .held-is r l ∙ sym (or-false-right (isHeld (d .holds) r))
 
   start : (r : ℕ) → r ≤ 128 → (other : List Trit)
-      → heldOr other (d .holds ++ one s (bitsIn trit f) ∷ []) r ≡ cond (eqb (getD held′ r 0) 1) (tritsOf (lenOf (nodeAt ns r)) (getD bits′ r 0) (getD known′ r 0)) other
+      → heldOr other (d .holds ++ one s (bitsIn trit f) ∷ []) r ≡ cond (eqb (getD held′ r 0) 1) (tritsOf (lenOf (nodeAt (a .nodes) r)) (getD bits′ r 0) (getD known′ r 0)) other
   start r l other = start-more other (d .holds) s (bitsIn trit f) r ∙ go (eqb s r) refl
     where
       go : (b : Bool) → eqb s r ≡ b
-          → heldOr (cond b (bitsIn trit f) other) (d .holds) r ≡ cond (eqb (getD held′ r 0) 1) (tritsOf (lenOf (nodeAt ns r)) (getD bits′ r 0) (getD known′ r 0)) other
+          → heldOr (cond b (bitsIn trit f) other) (d .holds) r ≡ cond (eqb (getD held′ r 0) 1) (tritsOf (lenOf (nodeAt (a .nodes) r)) (getD bits′ r 0) (getD known′ r 0)) other
       go true e =
           let q : s ≡ r = eqb-true s r e in
           rw (
             ← q,
-            getD-set-same held s 1 0 (omega (arith, w .sized .held-flags)),
-            getD-set-same bits s (wordFrom byteBit 0 f) 0 (omega (arith, w .sized .bit-words)),
-            getD-set-same known s (wordFrom byteKnown 0 f) 0 (omega (arith, w .sized .known-words)),
+            getD-set-same (a .held) s 1 0 (omega (arith, w .sized .held-flags)),
+            getD-set-same (a .bits) s (wordFrom byteBit 0 f) 0 (omega (arith, w .sized .bit-words)),
+            getD-set-same (a .known) s (wordFrom byteKnown 0 f) 0 (omega (arith, w .sized .known-words)),
           )
           (not-held (bitsIn trit f) (d .holds) s fresh
           ∙ sym (ap (λ (x : ℕ). tritsOf x (wordFrom byteBit 0 f) (wordFrom byteKnown 0 f)) (sym len) ∙ trits-of-field f (bitsIn trit f) (bits-are trit f form)))
       go false e =
           let ne : r ≡ s → ⊥ = λ z. eqb-false s r e (sym z) in
-          rw (getD-set-other held s r 1 0 ne, getD-set-other bits s r (wordFrom byteBit 0 f) 0 ne, getD-set-other known s r (wordFrom byteKnown 0 f) 0 ne) (w .start-is r l other)
+          rw (getD-set-other (a .held) s r 1 0 ne, getD-set-other (a .bits) s r (wordFrom byteBit 0 f) 0 ne, getD-set-other (a .known) s r (wordFrom byteKnown 0 f) 0 ne) (w .start-is r l other)
 
-  pub with-hold : Represents ns bits′ known′ steering held′ t (withHold d s (bitsIn trit f)) (suc n)
+  -- a word of start bits, with the bits of this line
+  word-more : (g : Trit → Bool) (old : List ℕ) (v : ℕ) → s < length old → v ≡ wordOf (map g (bitsIn trit f)) → ((r : ℕ) → getD old r 0 ≡ wordOf (map g (heldOr [] (d .holds) r)))
+      → (r : ℕ) → getD (set old s v) r 0 ≡ wordOf (map g (heldOr [] (d .holds ++ one s (bitsIn trit f) ∷ []) r))
+  word-more g old v l e p r = go (eqb s r) refl ∙ ap (λ (ts : List Trit). wordOf (map g ts)) (sym (start-more [] (d .holds) s (bitsIn trit f) r))
+    where
+      go : (b : Bool) → eqb s r ≡ b → getD (set old s v) r 0 ≡ wordOf (map g (heldOr (cond b (bitsIn trit f) []) (d .holds) r))
+      go true q = rw (← (eqb-true s r q), getD-set-same old s v 0 l, not-held (bitsIn trit f) (d .holds) s fresh) e
+      go false q = rw (getD-set-other old s r v 0 (λ z. eqb-false s r q (sym z))) (p r)
+
+  pub with-hold : Represents (arrays (a .nodes) bits′ known′ (a .steering) held′) t (withHold d s (bitsIn trit f)) (suc n)
   with-hold = record {
     sized = record {
       nodes = w .sized .nodes;
-      bit-words = length-set bits s (wordFrom byteBit 0 f) ∙ w .sized .bit-words;
-      known-words = length-set known s (wordFrom byteKnown 0 f) ∙ w .sized .known-words;
+      bit-words = length-set (a .bits) s (wordFrom byteBit 0 f) ∙ w .sized .bit-words;
+      known-words = length-set (a .known) s (wordFrom byteKnown 0 f) ∙ w .sized .known-words;
       steering-words = w .sized .steering-words;
-      held-flags = length-set held s 1 ∙ w .sized .held-flags;
+      held-flags = length-set (a .held) s 1 ∙ w .sized .held-flags;
     };
     in-limits = w .in-limits;
     nodes-are = w .nodes-are;
+    numbers-are = w .numbers-are;
     total-is = w .total-is;
     out-is = w .out-is;
     targets-are = w .targets-are;
+    numbers-of-targets = w .numbers-of-targets;
     steering-is = w .steering-is;
     steering-small = w .steering-small;
     held-is = flags;
     start-is = start;
+    bits-are = word-more isOne (a .bits) (wordFrom byteBit 0 f) (omega (arith, w .sized .bit-words)) (bits-word-of f (bitsIn trit f) (bits-are trit f form)) (w .bits-are);
+    known-are = word-more isKnown (a .known) (wordFrom byteKnown 0 f) (omega (arith, w .sized .known-words)) (known-word-of f (bitsIn trit f) (bits-are trit f form)) (w .known-are);
     sound = sound-hold d (withHold d s (bitsIn trit f)) n s (bitsIn trit f) (w .sound) is;
   }

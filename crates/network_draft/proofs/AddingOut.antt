@@ -3,7 +3,6 @@
 use mathlib.Core.Path.{_≡_, refl, sym, ap, _∙_}
 use mathlib.Core.Bool.{true, false}
 use mathlib.Core.Option.{Option}
-use mathlib.Core.List.{List}
 use Prim.Native.Nat.{ℕ, zero, suc, _≤_, _<_}
 use lib.ListN.{length}
 use borrow.Author.Tests.{lt-ltb, le-ltb}
@@ -11,7 +10,7 @@ use Rattle.model.specs.Result.{ok, refused}
 use Rattle.model.specs.NetworkText.{Draft, hasOut, firstBad, addOut, withOut, outIf}
 use Rattle.model.proofs.Reading.{sound-out}
 use Rattle.network_draft.specs.declared.store.Summary.{Summary}
-use Rattle.network_draft.specs.Represents.{Represents, ifNonzero}
+use Rattle.network_draft.specs.Represents.{Arrays, Represents, ifNonzero}
 
 module _ (d : Draft) (n k : ℕ) where
   pub out-4 : hasOut d ≡ true → addOut d n k ≡ refused 4 n
@@ -38,8 +37,8 @@ module _ (d : Draft) (n k : ℕ) where
       pub out-added : m ≡ 0 → addOut d n k ≡ ok (withOut d k)
       out-added z = by-first h (ifNonzero m) (sym f) ∙ ap (λ (x : ℕ). outIf d k (ifNonzero x)) z
 
-module _ (ns bits known steering held : List ℕ) (t : Summary) (d : Draft) (n k : ℕ) (w : Represents ns bits known steering held t d n) (is : addOut d n k ≡ ok (withOut d k)) where
-  pub fed : Represents ns bits known steering held record {
+module _ {a : Arrays} {t : Summary} {d : Draft} {n : ℕ} (w : Represents a t d n) (k : ℕ) (is : addOut d n k ≡ ok (withOut d k)) where
+  pub fed : Represents a record {
     count = t .count;
     total = t .total;
     «has_out» = true;
@@ -60,12 +59,16 @@ module _ (ns bits known steering held : List ℕ) (t : Summary) (d : Draft) (n k
       bits = w .in-limits .bits;
     };
     nodes-are = w .nodes-are;
+    numbers-are = w .numbers-are;
     total-is = w .total-is;
     out-is = refl;
     targets-are = w .targets-are;
+    numbers-of-targets = w .numbers-of-targets;
     steering-is = w .steering-is;
     steering-small = w .steering-small;
     held-is = w .held-is;
     start-is = w .start-is;
+    bits-are = w .bits-are;
+    known-are = w .known-are;
     sound = sound-out d (withOut d k) n k (w .sound) is;
   }

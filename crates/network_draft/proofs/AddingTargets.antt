@@ -3,29 +3,28 @@
 use mathlib.Core.Path.{_≡_, refl, sym, ap, _∙_, subst}
 use mathlib.Core.Bool.{Bool, true, false, cond, not, _&&_, _||_, Bool·beq}
 use mathlib.Core.List.{List, [], _∷_, _++_}
-use Prim.Native.Nat.{ℕ, zero, suc, _+_, _-_, _*_, _/_, _%_, _^_, _≤_, _<_}
+use Prim.Native.Nat.{ℕ, suc, _+_, _-_, _≤_, _<_}
 use native.Mathlib.Omega.{arith}
 use native.Mathlib.Numerals.{add-one}
-use native.Mathlib.Nat.{zero-div, zero-add, pow-suc}
+use native.Mathlib.Nat.{zero-add}
 use lib.ListN.{length, getD, set, length-set}
 use lib.Seq.{getD-set-same, getD-set-other}
-use lib.Pow.{shr-shr}
-use lib.Dec.{eqb, leb}
-use borrow.Author.Tests.{eq-eqb, ne-eqb, le-leb, lt-leb, leb-true, not-false}
+use lib.Dec.{eqb}
+use borrow.Author.Tests.{eq-eqb, ne-eqb, eqb-true, eqb-false, le-leb, lt-leb}
 use Rattle.model.specs.Result.{Result, ok, refused}
-use Rattle.model.specs.Network.{Node, segment, multiplexer, Target, read, write, at, noNode, hasShadow, lenOf, addressBits, tabulate, steers, steersAt, addressIn, isSteering}
-use Rattle.model.specs.NetworkText.{Draft, hasOut, isSome, badAddress, fitsTarget, sameTarget, isTarget, targetSegment, addFitting, addTarget, withTarget}
-use Rattle.model.specs.Drafted.{Stage, no-out, behind-out}
-use Rattle.model.proofs.Lists.{true-false, and-false-right, and-true-right, and-parts, or-left, or-right, eqb-same, tabulate-cong, tabulate-snoc}
+use Rattle.model.specs.Network.{Target, read, write, lenOf, tabulate, isSteering}
+use Rattle.model.specs.NetworkText.{Draft, hasOut, fitsTarget, sameTarget, isTarget, targetSegment, addFitting, addTarget, withTarget}
+use Rattle.model.proofs.Lists.{and-false-right, and-true-right, tabulate-cong, tabulate-snoc}
 use Rattle.model.proofs.Reading.{sound-target}
-use Rattle.model.proofs.Accepted.{no-bad, unsteered-bits}
-use Rattle.network_words.specs.Words.{wordWidth, wordBit}
+use Rattle.network_words.specs.Words.{wordBit}
+use Rattle.network_words.proofs.WordLaws.{word-bits}
 use Rattle.network_path.specs.Layout.{nodeAt}
 use Rattle.network_draft.specs.declared.store.Summary.{Summary}
 use Rattle.network_draft.specs.declared.add.Refusal.{Refusal}
-use Rattle.network_draft.specs.Represents.{Represents, targetAt, targetsOf, targetFor, sameWord, Agrees}
+use Rattle.network_draft.specs.Represents.{Arrays, Represents, targetAt, targetsOf, targetFor, sameWord, Agrees}
+use Rattle.network_draft.specs.Numbers.{noTarget, targetWord, TargetStored, TargetsStored}
 use Rattle.network_draft.specs.Added.{IsWord}
-use Rattle.network_draft.proofs.Representing.{represented-short}
+use Rattle.network_draft.proofs.Representing.{snoc-last, snoc-other, represented-targets}
 
 -- ---- a repeat
 
@@ -85,80 +84,6 @@ module _ (ns : List ℕ) (t : Summary) (s : ℕ) (w : Bool) (bs : List Bool) whe
   unfolding isTarget
   there-end i l = let e : t .«target_count» - i ≡ 0 = omega arith in rw e
 
--- ---- steering segments by their words
-
-word-zero : (k w : ℕ) → w < 2 ^ k → ((b : ℕ) → b < k → wordBit w b ≡ false) → w ≡ 0
-word-zero zero w l f = omega (arith, l)
-word-zero (suc k) w l f =
-    let p : 2 ^ suc k ≡ 2 ^ k * 2 = pow-suc 2 k in
-    let half : w / 2 < 2 ^ k = omega arith in
-    let low : w % 2 ≡ 1 → ⊥ = λ z. true-false (sym (eq-eqb (w / 2 ^ 0 % 2) 1 (omega arith)) ∙ f 0 (omega arith)) in
-    let high : w / 2 ≡ 0 = word-zero k (w / 2) half (λ b m. ap (λ (x : ℕ). eqb (x % 2) 1) (shr-shr w 1 b ∙ ap (λ (x : ℕ). w / 2 ^ x) (let z : 1 + b ≡ suc b = omega arith in z)) ∙ f (suc b) (omega arith)) in
-    omega arith
-
-zero-bit : (w b : ℕ) → w ≡ 0 → wordBit w b ≡ false
-zero-bit w b e = rw (e, zero-div (2 ^ b))
-
-here : (x : Node) (ns : List Node) (s b : ℕ) → steersAt x s b ≡ true → steers (x ∷ ns) s b ≡ true
-unfolding steers
-here x ns s b e = or-left (steersAt x s b) (steers ns s b) e
-
-there : (x : Node) (ns : List Node) (s b : ℕ) → steers ns s b ≡ true → steers (x ∷ ns) s b ≡ true
-unfolding steers
-there x ns s b e = or-right (steersAt x s b) (steers ns s b) e
-
--- a steering segment has a steering bit within a word
-record SteeringBit (ns : List Node) (s : ℕ) : Type 0 where
-  b : ℕ
-  is : steers ns s b ≡ true
-  small : b < wordWidth
-
-module _ (all : List Node) (short : (s : ℕ) → lenOf (at all s noNode) ≤ wordWidth) where
-  node-bit : (x : Node) (s : ℕ) → badAddress all x ≡ false → addressIn s x ≡ true → (b : ℕ) × (steersAt x s b ≡ true) × (b < wordWidth)
-  node-bit (segment from len sh) s e f = absurd (true-false (sym f))
-  node-bit (multiplexer q b ins) s e f =
-      let g = and-parts (hasShadow (at all q noNode)) (leb (b + addressBits ins) (lenOf (at all q noNode))) (not-false _ e) in
-      let l = leb-true (b + addressBits ins) (lenOf (at all q noNode)) (g .1) in
-      let m = one-bit (leb (length ins) 2) in
-      (b, rw (f, eqb-same b), omega (arith, short q))
-    where
-      one-bit : (t : Bool) → 1 ≤ cond t 1 2
-      one-bit true = omega arith
-      one-bit false = omega arith
-
-  find-bit : (ns : List Node) (s : ℕ) → ((i : ℕ) → i < length ns → badAddress all (getD ns i noNode) ≡ false) → isSteering ns s ≡ true → SteeringBit ns s
-  unfolding isSteering
-  find-bit [] s f e = absurd (true-false (sym e))
-  find-bit (x ∷ ns) s f e = go (addressIn s x) refl e (λ g. find-bit ns s (λ i l. f (suc i) (omega arith)) g)
-    where
-      go : (t : Bool) → addressIn s x ≡ t → (t || isSteering ns s) ≡ true → (isSteering ns s ≡ true → SteeringBit ns s) → SteeringBit (x ∷ ns) s
-      go true q g r = let b = node-bit x s (f 0 (omega arith)) q in record { b = b .0; is = here x ns s (b .0) (b .1); small = b .2 }
-      go false q g r = let b = r g in record { b = b .b; is = there x ns s (b .b) (b .is); small = b .small }
-
-module _ (ns bits known steering held : List ℕ) (t : Summary) (d : Draft) (n : ℕ) (w : Represents ns bits known steering held t d n) (out : hasOut d ≡ true) where
-  no-first : (i : ℕ) → i < length (d .nodes) → badAddress (d .nodes) (getD (d .nodes) i noNode) ≡ false
-  no-first = go (w .sound .stage)
-    where
-      go : Stage d n → (i : ℕ) → i < length (d .nodes) → badAddress (d .nodes) (getD (d .nodes) i noNode) ≡ false
-      go (no-out p m hs ts) = absurd (true-false (sym out ∙ ap isSome p))
-      go (behind-out k p z y hs ts) = no-bad (d .nodes) (d .nodes) 1 y
-
-  pub not-steering : (s : ℕ) → s ≤ 128 → getD steering s 0 ≡ 0 → isSteering (d .nodes) s ≡ false
-  not-steering s l e = go (isSteering (d .nodes) s) refl
-    where
-      go : (b : Bool) → isSteering (d .nodes) s ≡ b → isSteering (d .nodes) s ≡ false
-      go false q = q
-      go true q =
-          let b = find-bit (d .nodes) (represented-short ns bits known steering held t d n w) (d .nodes) s no-first q in
-          absurd (true-false (sym (b .is) ∙ sym (w .steering-is s (b .b) l (b .small)) ∙ zero-bit (getD steering s 0) (b .b) e))
-
-  pub is-steering : (s : ℕ) → s ≤ 128 → (getD steering s 0 ≡ 0 → ⊥) → isSteering (d .nodes) s ≡ true
-  is-steering s l ne = go (isSteering (d .nodes) s) refl
-    where
-      go : (b : Bool) → isSteering (d .nodes) s ≡ b → isSteering (d .nodes) s ≡ true
-      go true q = q
-      go false q = absurd (ne (word-zero wordWidth (getD steering s 0) (w .steering-small s) (λ b m. w .steering-is s b l m ∙ unsteered-bits (d .nodes) s b q)))
-
 -- ---- the refusals
 
 module _ (d : Draft) (n : ℕ) (x : Target) where
@@ -194,8 +119,8 @@ segment-of false s bs = refl
 
 -- ---- one target more
 
-module _ (ns bits known steering held : List ℕ) (t : Summary) (d : Draft) (n : ℕ) (w : Represents ns bits known steering held t d n)
-    (s : ℕ) (k : Bool) (word : ℕ) (bs : List Bool) (is-word : IsWord ns k s word bs) (room : t .«target_count» < 4)
+module _ {a : Arrays} {t : Summary} {d : Draft} {n : ℕ} (w : Represents a t d n)
+    (s : ℕ) (k : Bool) (word : ℕ) (bs : List Bool) (is-word : IsWord (a .nodes) k s word bs) (room : t .«target_count» < 4)
     (is : addTarget d n (targetFor k s bs) ≡ ok (withTarget d (targetFor k s bs))) where
   abbrev c : ℕ
   c = t .«target_count»
@@ -212,12 +137,12 @@ module _ (ns bits known steering held : List ℕ) (t : Summary) (d : Draft) (n :
     «target_bits» = set (t .«target_bits») c word;
   }
 
-  old-target : (i : ℕ) → i < c → targetAt ns t′ i ≡ targetAt ns t i
+  old-target : (i : ℕ) → i < c → targetAt (a .nodes) t′ i ≡ targetAt (a .nodes) t i
   old-target i l =
       let ne : i ≡ c → ⊥ = λ z. omega arith in
       rw (getD-set-other (t .«target_segment») c i s 0 ne, getD-set-other (t .«target_write») c i (cond k 1 0) 0 ne, getD-set-other (t .«target_bits») c i word 0 ne)
 
-  new-target : targetAt ns t′ c ≡ targetFor k s bs
+  new-target : targetAt (a .nodes) t′ c ≡ targetFor k s bs
   new-target =
       rw (
         getD-set-same (t .«target_segment») c s 0 (omega (arith, w .in-limits .segments)),
@@ -225,19 +150,50 @@ module _ (ns bits known steering held : List ℕ) (t : Summary) (d : Draft) (n :
         getD-set-same (t .«target_bits») c word 0 (omega (arith, w .in-limits .bits)),
       ) (go k is-word)
     where
-      go : (k : Bool) → IsWord ns k s word bs → cond (eqb (cond k 1 0) 1) (write s (tabulate (wordBit word) 0 (lenOf (nodeAt ns s)))) (read s) ≡ targetFor k s bs
-      go true f = ap (write s) (f refl)
+      go : (k : Bool) → IsWord (a .nodes) k s word bs → cond (eqb (cond k 1 0) 1) (write s (tabulate (wordBit word) 0 (lenOf (nodeAt (a .nodes) s)))) (read s) ≡ targetFor k s bs
+      go true f =
+          ap (write s)
+          (ap (tabulate (wordBit word) 0) (sym (f .long refl)) ∙ ap (λ (x : ℕ). tabulate (wordBit x) 0 (length bs)) (f .is) ∙ word-bits bs)
       go false f = refl
 
-  targets′ : targetsOf ns t′ ≡ d .targets ++ targetFor k s bs ∷ []
+  targets′ : targetsOf (a .nodes) t′ ≡ d .targets ++ targetFor k s bs ∷ []
   targets′ =
       let e : c + 1 ≡ suc c = omega arith in
-      ap (tabulate (targetAt ns t′) 0) e ∙ tabulate-snoc (targetAt ns t′) 0 c
-      ∙ ap (λ (l : List Target). l ++ targetAt ns t′ (0 + c) ∷ [])
-      (tabulate-cong (targetAt ns t′) (targetAt ns t) 0 c (λ x l. let z : 0 + x < c = omega arith in old-target (0 + x) z) ∙ w .targets-are)
-      ∙ ap (λ (x : Target). d .targets ++ x ∷ []) (ap (targetAt ns t′) (zero-add c) ∙ new-target)
+      ap (tabulate (targetAt (a .nodes) t′) 0) e ∙ tabulate-snoc (targetAt (a .nodes) t′) 0 c
+      ∙ ap (λ (l : List Target). l ++ targetAt (a .nodes) t′ (0 + c) ∷ [])
+      (tabulate-cong (targetAt (a .nodes) t′) (targetAt (a .nodes) t) 0 c (λ x l. let z : 0 + x < c = omega arith in old-target (0 + x) z) ∙ w .targets-are)
+      ∙ ap (λ (x : Target). d .targets ++ x ∷ []) (ap (targetAt (a .nodes) t′) (zero-add c) ∙ new-target)
 
-  pub with-target : Represents ns bits known steering held t′ (withTarget d (targetFor k s bs)) (suc n)
+  stored-new : (k : Bool) → word ≡ targetWord (targetFor k s bs) → TargetStored s (cond k 1 0) word (targetFor k s bs)
+  stored-new true e = record { segment-is = refl; flag-is = refl; word-is = e }
+  stored-new false e = record { segment-is = refl; flag-is = refl; word-is = e }
+
+  stored′ : TargetsStored t′ (d .targets ++ targetFor k s bs ∷ [])
+  stored′ i = go (eqb i c) refl
+    where
+      last : getD (d .targets ++ targetFor k s bs ∷ []) c noTarget ≡ targetFor k s bs
+      last = rw (← (represented-targets w)) (snoc-last (d .targets) (targetFor k s bs) noTarget)
+
+      go : (b : Bool) → eqb i c ≡ b
+          → TargetStored (getD (t′ .«target_segment») i 0) (getD (t′ .«target_write») i 0) (getD (t′ .«target_bits») i 0) (getD (d .targets ++ targetFor k s bs ∷ []) i noTarget)
+      go true e =
+          rw (
+            eqb-true i c e,
+            getD-set-same (t .«target_segment») c s 0 (omega (arith, w .in-limits .segments)),
+            getD-set-same (t .«target_write») c (cond k 1 0) 0 (omega (arith, w .in-limits .words)),
+            getD-set-same (t .«target_bits») c word 0 (omega (arith, w .in-limits .bits)),
+            last,
+          ) (stored-new k (is-word .is))
+      go false e =
+          let ne : i ≡ c → ⊥ = eqb-false i c e in
+          rw (
+            getD-set-other (t .«target_segment») c i s 0 ne,
+            getD-set-other (t .«target_write») c i (cond k 1 0) 0 ne,
+            getD-set-other (t .«target_bits») c i word 0 ne,
+            snoc-other (d .targets) (targetFor k s bs) noTarget i (λ z. ne (z ∙ represented-targets w)),
+          ) (w .numbers-of-targets i)
+
+  pub with-target : Represents a t′ (withTarget d (targetFor k s bs)) (suc n)
   with-target = record {
     sized = w .sized;
     in-limits = record {
@@ -249,13 +205,17 @@ module _ (ns bits known steering held : List ℕ) (t : Summary) (d : Draft) (n :
       bits = length-set (t .«target_bits») c word ∙ w .in-limits .bits;
     };
     nodes-are = w .nodes-are;
+    numbers-are = w .numbers-are;
     total-is = w .total-is;
     out-is = w .out-is;
     targets-are = targets′;
+    numbers-of-targets = stored′;
     steering-is = w .steering-is;
     steering-small = w .steering-small;
     held-is = w .held-is;
     start-is = w .start-is;
+    bits-are = w .bits-are;
+    known-are = w .known-are;
     sound = sound-target d (withTarget d (targetFor k s bs)) n (targetFor k s bs) (w .sound) is;
   }
 

@@ -5,5 +5,6 @@ pub mod AddingNodes
 pub mod BadAddresses
 pub mod AddingOut
 pub mod AddingHolds
+pub mod SteeringWords
 pub mod AddingTargets
 pub mod TargetLaws

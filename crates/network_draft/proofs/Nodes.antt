@@ -9,18 +9,20 @@ use native.Mathlib.Decide.{decLt}
 use native.Mathlib.Numerals.{add-one}
 use lib.ListN.{length, getD, set, length-set}
 use lib.Seq.{getD-set-same, getD-set-other}
-use lib.Dec.{eqb, leb}
+use lib.Dec.{eqb, leb, ltb}
 use lib.Bits.{bitOr, or-lt}
 use lib.Pow.{pow-lt}
 use borrow.Author.Tests.{ne-eqb, eqb-true, eqb-false}
-use Rattle.model.specs.Network.{segment, multiplexer, tabulate}
+use Rattle.model.specs.Network.{Node, segment, multiplexer, tabulate}
+use Rattle.model.specs.Drafted.{GoodForm}
 use Rattle.model.proofs.Lists.{or-false-right, tabulate-cong}
 use Rattle.network_words.specs.Words.{wordWidth, wordBit}
 use Rattle.network_path.specs.Layout.{fieldAt, nodeAt}
 use Rattle.network_words.proofs.WordTests.{wordBit-or, wordBit-pow}
 use Rattle.network_line.specs.Line.{inputsOf}
 use Rattle.network_line.proofs.Bounds.{by-count}
-use Rattle.network_draft.specs.Store.{NodeNumbers, NumbersStored, Small, BitMarked, Marked}
+use Rattle.network_draft.specs.Store.{NumbersStored, Small, BitMarked, Marked}
+use Rattle.network_draft.specs.Numbers.{numbersFor}
 
 -- ---- the eight numbers
 
@@ -35,18 +37,31 @@ node-by-fields ns ms k j e small =
     tabulate-cong _ _ 0 (fieldAt ms j 0) (λ x l. e (4 + (0 + x)) (omega arith)) in
     rw (e0, e1, e2, ins)
 
-pub segment-numbers : (from len : ℕ) (s : Bool) → NodeNumbers (segment from len s) (cond s 1 0 ∷ from ∷ len ∷ 0 ∷ 0 ∷ 0 ∷ 0 ∷ 0 ∷ [])
-unfolding nodeAt
-segment-numbers from len true = record { size = refl; kind = omega arith; is = refl }
-segment-numbers from len false = record { size = refl; kind = omega arith; is = refl }
+pub numbers-size : (x : Node) → length (numbersFor x) ≡ 8
+numbers-size (segment from len s) = refl
+numbers-size (multiplexer s b ins) = refl
 
-pub mux-numbers : (n s b i0 i1 i2 i3 : ℕ) → 2 ≤ n → n ≤ 4 → NodeNumbers (multiplexer s b (inputsOf n i0 i1 i2 i3)) (n ∷ s ∷ b ∷ 0 ∷ i0 ∷ i1 ∷ i2 ∷ i3 ∷ [])
-unfolding nodeAt
+-- the numbers of a multiplexer with n inputs
+pub mux-numbers : (n s b i0 i1 i2 i3 : ℕ) → 2 ≤ n → n ≤ 4
+    → n ∷ s ∷ b ∷ 0 ∷ i0 ∷ i1 ∷ cond (ltb 2 n) i2 0 ∷ cond (ltb 3 n) i3 0 ∷ [] ≡ numbersFor (multiplexer s b (inputsOf n i0 i1 i2 i3))
 mux-numbers n s b i0 i1 i2 i3 lo hi =
-    by-count (λ k. NodeNumbers (multiplexer s b (inputsOf k i0 i1 i2 i3)) (k ∷ s ∷ b ∷ 0 ∷ i0 ∷ i1 ∷ i2 ∷ i3 ∷ [])) n lo hi
-    (record { size = refl; kind = omega arith; is = refl })
-    (record { size = refl; kind = omega arith; is = refl })
-    (record { size = refl; kind = omega arith; is = refl })
+    by-count (λ k. k ∷ s ∷ b ∷ 0 ∷ i0 ∷ i1 ∷ cond (ltb 2 k) i2 0 ∷ cond (ltb 3 k) i3 0 ∷ [] ≡ numbersFor (multiplexer s b (inputsOf k i0 i1 i2 i3))) n lo hi refl refl refl
+
+-- eight numbers that are a node
+pub record NodeNumbers (x : Node) (numbers : List ℕ) : Type 0 where
+  pub kind : getD numbers 0 0 ≤ 4
+  pub is : nodeAt numbers 0 ≡ x
+
+pub node-numbers : (x : Node) → GoodForm x → NodeNumbers x (numbersFor x)
+unfolding nodeAt
+node-numbers (segment from len true) g = record { kind = omega arith; is = refl }
+node-numbers (segment from len false) g = record { kind = omega arith; is = refl }
+node-numbers (multiplexer s b []) g = absurd (omega (arith, g .0))
+node-numbers (multiplexer s b (i0 ∷ [])) g = absurd (omega (arith, g .0))
+node-numbers (multiplexer s b (i0 ∷ i1 ∷ [])) g = record { kind = omega arith; is = refl }
+node-numbers (multiplexer s b (i0 ∷ i1 ∷ i2 ∷ [])) g = record { kind = omega arith; is = refl }
+node-numbers (multiplexer s b (i0 ∷ i1 ∷ i2 ∷ i3 ∷ [])) g = record { kind = omega arith; is = refl }
+node-numbers (multiplexer s b (i0 ∷ i1 ∷ i2 ∷ i3 ∷ i4 ∷ ins)) g = absurd (omega (arith, g .1))
 
 -- the first i of the eight numbers are stored
 pub record Storing (ns : List ℕ) (k : ℕ) (numbers : List ℕ) (i : ℕ) (ns′ : List ℕ) : Type 0 where

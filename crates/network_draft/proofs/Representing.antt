@@ -21,7 +21,7 @@ use Rattle.network_draft.specs.declared.store.Summary.{Summary}
 use Rattle.network_draft.specs.declared.add.Refusal.{Refusal}
 use Rattle.network_draft.specs.declared.add.Refusal.the-variants.{Nothing, Refused}
 use Rattle.network_draft.specs.Store.{NumbersStored}
-use Rattle.network_draft.specs.Represents.{feedsOf, Formed, Short, Represents, Agrees}
+use Rattle.network_draft.specs.Represents.{feedsOf, Formed, Short, Arrays, Represents, Agrees}
 use Rattle.network_draft.proofs.Nodes.{node-by-fields}
 
 -- ---- answers
@@ -31,6 +31,18 @@ agrees-refused D a r number place e f = subst (λ (x : Result Draft). Agrees D x
 
 pub agrees-ok : (D : Draft → Type 0) (a : Result Draft) (r : Refusal) (d : Draft) → a ≡ ok d → r ≡ Nothing → D d → Agrees D a r
 agrees-ok D a r d e f x = subst (λ (y : Result Draft). Agrees D y r) (sym e) (f, x)
+
+-- ---- one element more
+
+pub snoc-last : {A : Type 0} (l : List A) (x d : A) → getD (l ++ x ∷ []) (length l) d ≡ x
+snoc-last [] x d = refl
+snoc-last (y ∷ l) x d = snoc-last l x d
+
+pub snoc-other : {A : Type 0} (l : List A) (x d : A) (n : ℕ) → (n ≡ length l → ⊥) → getD (l ++ x ∷ []) n d ≡ getD l n d
+snoc-other [] x d zero ne = absurd (ne refl)
+snoc-other [] x d (suc n) ne = refl
+snoc-other (y ∷ l) x d zero ne = refl
+snoc-other (y ∷ l) x d (suc n) ne = snoc-other l x d n (λ z. ne (ap suc z))
 
 -- ---- nodes
 
@@ -53,7 +65,7 @@ kind-small ns k g = go (ltb (fieldAt ns k 0) 2) refl g
 
 -- ---- what a representation says
 
-module _ (ns bits known steering held : List ℕ) (t : Summary) (d : Draft) (n : ℕ) (w : Represents ns bits known steering held t d n) where
+module _ {a : Arrays} {t : Summary} {d : Draft} {n : ℕ} (w : Represents a t d n) where
   pub represented-out : hasOut d ≡ t .«has_out»
   represented-out = ap isSome (sym (w .out-is)) ∙ go (t .«has_out») (t .out)
     where
@@ -62,29 +74,29 @@ module _ (ns bits known steering held : List ℕ) (t : Summary) (d : Draft) (n :
       go false k = refl
 
   pub represented-count : length (d .nodes) ≡ t .count
-  represented-count = ap length (sym (w .nodes-are)) ∙ length-tabulate (nodeAt ns) 1 (t .count)
+  represented-count = ap length (sym (w .nodes-are)) ∙ length-tabulate (nodeAt (a .nodes)) 1 (t .count)
 
   pub represented-targets : length (d .targets) ≡ t .«target_count»
   represented-targets = ap length (sym (w .targets-are)) ∙ length-tabulate _ 0 (t .«target_count»)
 
   -- node k of the draft
-  pub represented-node : (k : ℕ) → 1 ≤ k → k ≤ t .count → at (d .nodes) k noNode ≡ nodeAt ns k
+  pub represented-node : (k : ℕ) → 1 ≤ k → k ≤ t .count → at (d .nodes) k noNode ≡ nodeAt (a .nodes) k
   represented-node zero lo hi = absurd (omega arith)
   represented-node (suc k) lo hi =
-      ap (λ (l : List Node). getD l k noNode) (sym (w .nodes-are)) ∙ getD-tabulate (nodeAt ns) 1 (t .count) k noNode (omega arith)
-      ∙ ap (nodeAt ns) (let z : 1 + k ≡ suc k = omega arith in z)
+      ap (λ (l : List Node). getD l k noNode) (sym (w .nodes-are)) ∙ getD-tabulate (nodeAt (a .nodes)) 1 (t .count) k noNode (omega arith)
+      ∙ ap (nodeAt (a .nodes)) (let z : 1 + k ≡ suc k = omega arith in z)
 
-  pub represented-kind : (k : ℕ) → 1 ≤ k → k ≤ t .count → fieldAt ns k 0 ≤ 4
+  pub represented-kind : (k : ℕ) → 1 ≤ k → k ≤ t .count → fieldAt (a .nodes) k 0 ≤ 4
   represented-kind zero lo hi = absurd (omega arith)
   represented-kind (suc k) lo hi =
-      kind-small ns (suc k) (subst GoodForm (represented-node (suc k) lo hi) (w .sound .nodes-placed k (omega (arith, represented-count)) .form))
+      kind-small (a .nodes) (suc k) (subst GoodForm (represented-node (suc k) lo hi) (w .sound .nodes-placed k (omega (arith, represented-count)) .form))
 
   -- the nodes before one that is stored stay
-  pub kept-node : (numbers ns′ : List ℕ) (j : ℕ) → NumbersStored ns j numbers ns′ → t .count < j → (k : ℕ) → 1 ≤ k → k ≤ t .count → nodeAt ns′ k ≡ nodeAt ns k
-  kept-node numbers ns′ j s l k lo hi = node-by-fields ns′ ns k k (λ i h. s .others k i (λ z. omega arith) h) (represented-kind k lo hi)
+  pub kept-node : (numbers ns′ : List ℕ) (j : ℕ) → NumbersStored (a .nodes) j numbers ns′ → t .count < j → (k : ℕ) → 1 ≤ k → k ≤ t .count → nodeAt ns′ k ≡ nodeAt (a .nodes) k
+  kept-node numbers ns′ j s l k lo hi = node-by-fields ns′ (a .nodes) k k (λ i h. s .others k i (λ z. omega arith) h) (represented-kind k lo hi)
 
   -- a LEN that was looked up
-  pub represented-len : (r s : ℕ) → r ≡ lenOf (nodeOf (nodesOf ns (t .count)) s) → lenOf (at (d .nodes) s noNode) ≡ r
+  pub represented-len : (r s : ℕ) → r ≡ lenOf (nodeOf (nodesOf (a .nodes) (t .count)) s) → lenOf (at (d .nodes) s noNode) ≡ r
   represented-len r s e = ap (λ (l : List Node). lenOf (at l s noNode)) (sym (w .nodes-are)) ∙ sym e
 
   -- no segment is longer than a word
@@ -100,9 +112,9 @@ module _ (ns bits known steering held : List ℕ) (t : Summary) (d : Draft) (n :
       go (yes l) = len-small (suc k) (getD (d .nodes) k noNode) (w .sound .nodes-placed k l .within)
       go (no l) = let e = ap lenOf (List·getD-eq-default (d .nodes) noNode {n = k} (omega arith)) in omega arith
 
-  pub represented-formed : Formed ns (t .count)
+  pub represented-formed : Formed (a .nodes) (t .count)
   represented-formed zero lo hi = absurd (omega arith)
   represented-formed (suc k) lo hi = subst GoodForm (represented-node (suc k) lo hi) (w .sound .nodes-placed k (omega (arith, represented-count)) .form)
 
-  pub represented-words : Short ns (t .count)
+  pub represented-words : Short (a .nodes) (t .count)
   represented-words k lo hi = let e = ap lenOf (represented-node k lo hi) in omega (arith, represented-short k)

@@ -4,8 +4,8 @@ use mathlib.Core.Path.{_≡_}
 use mathlib.Core.Bool.{Bool, true}
 use mathlib.Core.List.{List, []}
 use Prim.Native.Nat.{ℕ, suc}
-use Rattle.model.specs.Network.{read, write, lenOf, tabulate}
-use Rattle.network_words.specs.Words.{wordBit}
+use lib.ListN.{length}
+use Rattle.model.specs.Network.{read, write, lenOf}
 use Rattle.network_path.specs.Layout.{nodeAt}
 use Rattle.model.specs.Text.{Bytes, trit, bit, bitsFrom}
 use Rattle.model.specs.NetworkText.{Draft, isSome, hasOut, addNode, addOut, addHold, fitsTarget, addFitting, addTarget}
@@ -14,39 +14,41 @@ use Rattle.network_line.specs.declared.NodeData.{NodeData}
 use Rattle.network_draft.specs.declared.add.Added.{Added}
 use Rattle.network_draft.specs.declared.add.Refusal.{Refusal}
 use Rattle.network_line.specs.Line.{nodeFor, bitsIn}
-use Rattle.network_draft.specs.Represents.{Represents, Agrees, targetFor}
+use Rattle.network_draft.specs.Numbers.{targetWord}
+use Rattle.network_draft.specs.Represents.{arrays, Represents, Agrees, targetFor}
 
 abbrev pub NodeAdded : List ℕ → List ℕ → Summary → ℕ → NodeData → Added → List ℕ → List ℕ → Type 0
 NodeAdded ns steering t n x r ns′ steering′ =
-    (bits known held : List ℕ) (d : Draft) → Represents ns bits known steering held t d n
-    → Agrees (λ e. Represents ns′ bits known steering′ held (r .summary) e (suc n)) (addNode d n (nodeFor x)) (r .refusal)
+    (bits known held : List ℕ) (d : Draft) → Represents (arrays ns bits known steering held) t d n
+    → Agrees (λ e. Represents (arrays ns′ bits known steering′ held) (r .summary) e (suc n)) (addNode d n (nodeFor x)) (r .refusal)
 
 abbrev pub OutAdded : List ℕ → Summary → ℕ → ℕ → Added → Type 0
 OutAdded ns t n k r =
-    (bits known steering held : List ℕ) (d : Draft) → Represents ns bits known steering held t d n
-    → Agrees (λ e. Represents ns bits known steering held (r .summary) e (suc n)) (addOut d n k) (r .refusal)
+    (bits known steering held : List ℕ) (d : Draft) → Represents (arrays ns bits known steering held) t d n
+    → Agrees (λ e. Represents (arrays ns bits known steering held) (r .summary) e (suc n)) (addOut d n k) (r .refusal)
 
 abbrev pub HoldAdded : List ℕ → List ℕ → List ℕ → List ℕ → Summary → ℕ → ℕ → Bytes → Refusal → List ℕ → List ℕ → List ℕ → Type 0
 HoldAdded ns bits known held t n s f r bits′ known′ held′ =
-    (steering : List ℕ) (d : Draft) → isSome (bitsFrom trit [] f) ≡ true → Represents ns bits known steering held t d n
-    → Agrees (λ e. Represents ns bits′ known′ steering held′ t e (suc n)) (addHold d n s (bitsIn trit f)) r
+    (steering : List ℕ) (d : Draft) → isSome (bitsFrom trit [] f) ≡ true → Represents (arrays ns bits known steering held) t d n
+    → Agrees (λ e. Represents (arrays ns bits′ known′ steering held′) t e (suc n)) (addHold d n s (bitsIn trit f)) r
 
--- the bits of a write target are those of its word
-abbrev pub IsWord : List ℕ → Bool → ℕ → ℕ → List Bool → Type 0
-IsWord ns w s word bs = w ≡ true → tabulate (wordBit word) 0 (lenOf (nodeAt ns s)) ≡ bs
+-- the word of a target's bits; a write target has as many bits as its segment
+pub record IsWord (ns : List ℕ) (w : Bool) (s word : ℕ) (bs : List Bool) : Type 0 where
+  pub is : word ≡ targetWord (targetFor w s bs)
+  pub long : w ≡ true → length bs ≡ lenOf (nodeAt ns s)
 
 abbrev pub TargetAdded : List ℕ → Summary → ℕ → ℕ → Bool → ℕ → Added → Type 0
 TargetAdded steering t n s w word r =
     (ns bits known held : List ℕ) (bs : List Bool) (d : Draft) → hasOut d ≡ true → fitsTarget (d .nodes) (targetFor w s bs) ≡ true → IsWord ns w s word bs
-    → Represents ns bits known steering held t d n
-    → Agrees (λ e. Represents ns bits known steering held (r .summary) e (suc n)) (addFitting d n (targetFor w s bs)) (r .refusal)
+    → Represents (arrays ns bits known steering held) t d n
+    → Agrees (λ e. Represents (arrays ns bits known steering held) (r .summary) e (suc n)) (addFitting d n (targetFor w s bs)) (r .refusal)
 
 abbrev pub ReadAdded : List ℕ → List ℕ → Summary → ℕ → ℕ → Added → Type 0
 ReadAdded ns steering t n s r =
-    (bits known held : List ℕ) (d : Draft) → Represents ns bits known steering held t d n
-    → Agrees (λ e. Represents ns bits known steering held (r .summary) e (suc n)) (addTarget d n (read s)) (r .refusal)
+    (bits known held : List ℕ) (d : Draft) → Represents (arrays ns bits known steering held) t d n
+    → Agrees (λ e. Represents (arrays ns bits known steering held) (r .summary) e (suc n)) (addTarget d n (read s)) (r .refusal)
 
 abbrev pub WriteAdded : List ℕ → List ℕ → Summary → ℕ → ℕ → Bytes → Added → Type 0
 WriteAdded ns steering t n s f r =
-    (bits known held : List ℕ) (d : Draft) → isSome (bitsFrom bit [] f) ≡ true → Represents ns bits known steering held t d n
-    → Agrees (λ e. Represents ns bits known steering held (r .summary) e (suc n)) (addTarget d n (write s (bitsIn bit f))) (r .refusal)
+    (bits known held : List ℕ) (d : Draft) → isSome (bitsFrom bit [] f) ≡ true → Represents (arrays ns bits known steering held) t d n
+    → Agrees (λ e. Represents (arrays ns bits known steering held) (r .summary) e (suc n)) (addTarget d n (write s (bitsIn bit f))) (r .refusal)

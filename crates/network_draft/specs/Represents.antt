@@ -3,7 +3,7 @@
 use mathlib.Core.Path.{_≡_}
 use mathlib.Core.Bool.{Bool, true, false, cond, _&&_, Bool·beq}
 use mathlib.Core.Option.{Option, none, some}
-use mathlib.Core.List.{List}
+use mathlib.Core.List.{List, []}
 use Prim.Native.Nat.{ℕ, zero, suc, _≤_, _<_}
 use lib.ListN.{length, getD, replicate}
 use lib.Dec.{eqb}
@@ -13,9 +13,10 @@ use Rattle.model.specs.Text.{Trit}
 use Rattle.model.specs.Network.{Target, read, write, lenOf, totalBits, tabulate, steers, heldOr}
 use Rattle.model.specs.NetworkText.{Draft, isHeld, isTarget}
 use Rattle.model.specs.Drafted.{GoodForm, Sound}
-use Rattle.network_words.specs.Words.{wordWidth, wordBit, tritsOf}
+use Rattle.network_words.specs.Words.{wordWidth, wordBit, tritsOf, bitsWord, knownWord}
 use Rattle.network_path.specs.Layout.{nodeAt, nodesOf, nodeFields, nodeNumbers}
 use Rattle.network_draft.specs.Store.{Small}
+use Rattle.network_draft.specs.Numbers.{NodesStored, TargetsStored}
 use Rattle.network_draft.specs.declared.store.Summary.{Summary}
 use Rattle.network_draft.specs.declared.add.Refusal.{Refusal}
 use Rattle.network_draft.specs.declared.add.Refusal.the-variants.{Nothing, Refused}
@@ -69,28 +70,44 @@ pub record InLimits (t : Summary) : Type 0 where
   pub words : length (t .«target_write») ≡ 4
   pub bits : length (t .«target_bits») ≡ 4
 
-pub record Sized (ns bits known steering held : List ℕ) : Type 0 where
-  pub nodes : length ns ≡ nodeFields
-  pub bit-words : length bits ≡ nodeNumbers
-  pub known-words : length known ≡ nodeNumbers
-  pub steering-words : length steering ≡ nodeNumbers
-  pub held-flags : length held ≡ nodeNumbers
+-- the five arrays that the reader fills
+pub record Arrays : Type 0 where
+  pub nodes : List ℕ
+  pub bits : List ℕ
+  pub known : List ℕ
+  pub steering : List ℕ
+  pub held : List ℕ
+
+abbrev pub arrays : List ℕ → List ℕ → List ℕ → List ℕ → List ℕ → Arrays
+arrays ns bits known steering held = record { nodes = ns; bits = bits; known = known; steering = steering; held = held }
+
+pub record Sized (a : Arrays) : Type 0 where
+  pub nodes : length (a .nodes) ≡ nodeFields
+  pub bit-words : length (a .bits) ≡ nodeNumbers
+  pub known-words : length (a .known) ≡ nodeNumbers
+  pub steering-words : length (a .steering) ≡ nodeNumbers
+  pub held-flags : length (a .held) ≡ nodeNumbers
 
 -- before line n
-pub record Represents (ns bits known steering held : List ℕ) (t : Summary) (d : Draft) (n : ℕ) : Type 0 where
-  pub sized : Sized ns bits known steering held
+pub record Represents (a : Arrays) (t : Summary) (d : Draft) (n : ℕ) : Type 0 where
+  pub sized : Sized a
   pub in-limits : InLimits t
-  pub nodes-are : nodesOf ns (t .count) ≡ d .nodes
+  pub nodes-are : nodesOf (a .nodes) (t .count) ≡ d .nodes
+  pub numbers-are : NodesStored (a .nodes) (d .nodes)
   pub total-is : t .total ≡ totalBits (d .nodes)
   pub out-is : feedsOf (t .«has_out») (t .out) ≡ d .feeds
-  pub targets-are : targetsOf ns t ≡ d .targets
+  pub targets-are : targetsOf (a .nodes) t ≡ d .targets
+  pub numbers-of-targets : TargetsStored t (d .targets)
   -- bit b of a segment's word of steering bits
-  pub steering-is : (s b : ℕ) → s ≤ maxNodes → b < wordWidth → wordBit (getD steering s 0) b ≡ steers (d .nodes) s b
-  pub steering-small : Small steering
+  pub steering-is : (s b : ℕ) → s ≤ maxNodes → b < wordWidth → wordBit (getD (a .steering) s 0) b ≡ steers (d .nodes) s b
+  pub steering-small : Small (a .steering)
   -- a segment's flag of a `hold` line, and its start bits
-  pub held-is : (s : ℕ) → s ≤ maxNodes → eqb (getD held s 0) 1 ≡ isHeld (d .holds) s
+  pub held-is : (s : ℕ) → s ≤ maxNodes → eqb (getD (a .held) s 0) 1 ≡ isHeld (d .holds) s
   pub start-is : (s : ℕ) → s ≤ maxNodes → (other : List Trit)
-      → heldOr other (d .holds) s ≡ cond (eqb (getD held s 0) 1) (tritsOf (lenOf (nodeAt ns s)) (getD bits s 0) (getD known s 0)) other
+      → heldOr other (d .holds) s ≡ cond (eqb (getD (a .held) s 0) 1) (tritsOf (lenOf (nodeAt (a .nodes) s)) (getD (a .bits) s 0) (getD (a .known) s 0)) other
+  -- the words of start bits; both are 0 without a `hold` line
+  pub bits-are : (s : ℕ) → getD (a .bits) s 0 ≡ bitsWord (heldOr [] (d .holds) s)
+  pub known-are : (s : ℕ) → getD (a .known) s 0 ≡ knownWord (heldOr [] (d .holds) s)
   pub sound : Sound d n
 
 abbrev pub emptySummary : Summary
@@ -105,8 +122,8 @@ emptySummary = record {
   «target_bits» = replicate 4 0;
 }
 
-abbrev pub Drafted : List ℕ → List ℕ → List ℕ → List ℕ → List ℕ → Summary → ℕ → Type 0
-Drafted ns bits known steering held t n = (d : Draft) × Represents ns bits known steering held t d n
+abbrev pub Drafted : Arrays → Summary → ℕ → Type 0
+Drafted a t n = (d : Draft) × Represents a t d n
 
 -- an answer that agrees with the model's: the refusal, or nothing refused and D of the new draft
 abbrev pub Agrees : (Draft → Type 0) → Result Draft → Refusal → Type 0

@@ -9,13 +9,7 @@ use lib.Dec.{eqb}
 use Rattle.model.specs.Limits.{maxNodes}
 use Rattle.model.specs.Network.{Node, steersAt}
 use Rattle.network_words.specs.Words.{wordWidth, wordBit}
-use Rattle.network_path.specs.Layout.{fieldAt, nodeAt}
-
--- eight numbers that are a node
-pub record NodeNumbers (x : Node) (numbers : List ℕ) : Type 0 where
-  pub size : length numbers ≡ 8
-  pub kind : getD numbers 0 0 ≤ 4
-  pub is : nodeAt numbers 0 ≡ x
+use Rattle.network_path.specs.Layout.{fieldAt}
 
 -- node k has these eight numbers, and every other node its own
 pub record NumbersStored (ns : List ℕ) (k : ℕ) (numbers ns′ : List ℕ) : Type 0 where

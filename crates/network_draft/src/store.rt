@@ -10,10 +10,12 @@ ghost use mathlib.Core.Path.{_≡_};
 ghost use mathlib.Core.Bool.{cond};
 ghost use Prim.Native.Nat.{_≤_};
 ghost use lib.ListN.{length};
+ghost use lib.Dec.{ltb};
 ghost use Rattle.network_path.specs.Layout.{nodeFields, nodeNumbers};
 ghost use Rattle.model.specs.Limits.{maxNodes};
 ghost use Rattle.network_line.specs.Line.{nodeFor, SmallNode};
-ghost use Rattle.network_draft.specs.Store.{NodeNumbers, NumbersStored, Marked, BitMarked};
+ghost use Rattle.network_draft.specs.Store.{NumbersStored, Marked, BitMarked};
+ghost use Rattle.network_draft.specs.Numbers.{numbersFor};
 
 // Counts, the node that feeds scan-out, and the targets: a target's word is 1 for `write` and 0 for `read`.
 pub struct Summary {
@@ -44,10 +46,21 @@ pub fn flag_of(flag: bool) -> u16
     0
 }
 
+// Input i, or 0 for one that a multiplexer of count inputs lacks.
+fn input_if(i: usize, count: usize, x: usize) -> u16
+    requires { ⌜ x ≤ 9999 ⌝ }
+    ensures { λ r. ⌜ r ≡ cond (ltb i count) x 0 ⌝ }
+{
+    if i < count {
+        return narrow(x);
+    }
+    0
+}
+
 // The eight numbers of a node.
 pub fn numbers_of(x: NodeData) -> [u16; 8]
     requires { ⌜ SmallNode x ⌝ }
-    ensures { λ r. ⌜ NodeNumbers (nodeFor x) r ⌝ }
+    ensures { λ r. ⌜ r ≡ numbersFor (nodeFor x) ⌝ }
 {
     match x {
         NodeData::Segment { from, len, shadow } => {
@@ -68,8 +81,8 @@ pub fn numbers_of(x: NodeData) -> [u16; 8]
             0,
             narrow(a),
             narrow(b),
-            narrow(c),
-            narrow(d),
+            input_if(2, count, c),
+            input_if(3, count, d),
         ],
     }
 }

@@ -29,7 +29,7 @@ abbrev pub inputsAt : List ℕ → ℕ → List ℕ
 inputsAt ns k = tabulate (λ i. fieldAt ns k (4 + i)) 0 (fieldAt ns k 0)
 
 -- number 0 is the kind: 0 a plain segment, 1 a segment with shadow, 2 to 4 a multiplexer with so many inputs;
--- number 1 is FROM or SEG, number 2 LEN or BIT; from number 4 on stand the inputs; number 3 is free
+-- number 1 is FROM or SEG, number 2 LEN or BIT; from number 4 on stand the inputs; number 3 is not read
 unfoldable pub nodeAt : List ℕ → ℕ → Node
 nodeAt ns k =
     cond (ltb (fieldAt ns k 0) 2)

@@ -1,5 +1,6 @@
 -- Laws of the start, of the lines in turn, and of the record.
 pub mod Starting
+pub mod StartWords
 pub mod Counting
 pub mod ReadingLines
 pub mod ReadingNetwork

@@ -20,7 +20,7 @@ use Rattle.network_line.specs.Line.{bytesAt, entryMeans, GoodEntry, IsLine}
 use Rattle.network_draft.specs.declared.store.Summary.{Summary}
 use Rattle.network_draft.specs.declared.add.Added.{Added}
 use Rattle.network_reader.specs.declared.reader.Lines.{Lines}
-use Rattle.network_draft.specs.Represents.{Represents, Agrees}
+use Rattle.network_draft.specs.Represents.{Arrays, Represents, Agrees}
 use Rattle.network_reader.specs.Reads.{LineAdded, LinesAre, LinesRead}
 
 -- ---- a parsed line
@@ -87,31 +87,31 @@ no-line-left t d n at l = ap (λ (x : Bytes). readLines d n (parts lineEnd x)) (
 
 -- ---- before line n, from byte `at` on
 
-pub record Standing (t : Bytes) (ns bits known steering held : List ℕ) (y : Summary) (at n : ℕ) : Type 0 where
+pub record Standing (t : Bytes) (a : Arrays) (y : Summary) (at n : ℕ) : Type 0 where
   pub draft : Draft
-  pub represented : Represents ns bits known steering held y draft n
+  pub represented : Represents a y draft n
   pub rest : readLines noLines 1 (parts lineEnd t) ≡ readLines draft n (parts lineEnd (drop at t))
 
-pub standing-start : (t : Bytes) (ns bits known steering held : List ℕ) (y : Summary) → Represents ns bits known steering held y noLines 1 → Standing t ns bits known steering held y 0 1
-standing-start t ns bits known steering held y w = record { draft = noLines; represented = w; rest = refl }
+pub standing-start : (t : Bytes) {a : Arrays} {y : Summary} → Represents a y noLines 1 → Standing t a y 0 1
+standing-start t w = record { draft = noLines; represented = w; rest = refl }
 
-pub lines-refused : (t : Bytes) (ns bits known steering held : List ℕ) (r : Lines) (number place : ℕ)
-    → readLines noLines 1 (parts lineEnd t) ≡ refused number place → r .refusal ≡ Refused number place → LinesRead t r ns bits known steering held
-lines-refused t ns bits known steering held r number place q e = subst (λ (a : Result (ℕ × Draft)). LinesAre ns bits known steering held a r) (sym q) e
+pub lines-refused : (t : Bytes) (a : Arrays) (r : Lines) (number place : ℕ)
+    → readLines noLines 1 (parts lineEnd t) ≡ refused number place → r .refusal ≡ Refused number place → LinesRead t r a
+lines-refused t a r number place q e = subst (λ (x : Result (ℕ × Draft)). LinesAre a x r) (sym q) e
 
-module _ (t : Bytes) (ns bits known steering held : List ℕ) (y : Summary) (at n : ℕ) (s : Standing t ns bits known steering held y at n) where
+module _ {t : Bytes} {a : Arrays} {y : Summary} {at n : ℕ} (s : Standing t a y at n) where
   pub standing-unended : (end : ℕ) → IsEnd lineEnd t at end → at < length t → end ≡ length t → readLines noLines 1 (parts lineEnd t) ≡ refused 1 n
   standing-unended end e l q = s .rest ∙ unended t (s .draft) n at end e l q
 
-  pub standing-end : length t ≤ at → (r : Lines) → r .refusal ≡ Nothing → r .summary ≡ y → r .next ≡ n → LinesRead t r ns bits known steering held
-  standing-end l r a b q =
-      subst (λ (x : Result (ℕ × Draft)). LinesAre ns bits known steering held x r) (sym (s .rest ∙ no-line-left t (s .draft) n at l))
-      (a, q, subst (λ (x : Summary). Represents ns bits known steering held x (s .draft) n) (sym b) (s .represented))
+  pub standing-end : length t ≤ at → (r : Lines) → r .refusal ≡ Nothing → r .summary ≡ y → r .next ≡ n → LinesRead t r a
+  standing-end l r p o q =
+      subst (λ (x : Result (ℕ × Draft)). LinesAre a x r) (sym (s .rest ∙ no-line-left t (s .draft) n at l))
+      (p, q, subst (λ (x : Summary). Represents a x (s .draft) n) (sym o) (s .represented))
 
-  module _ (ns′ bits′ known′ steering′ held′ : List ℕ) (end : ℕ) (r : Added) (e : IsEnd lineEnd t at end) (l : end < length t)
-      (f : LineAdded ns bits known steering held y (take (end - at) (drop at t)) n r ns′ bits′ known′ steering′ held′) where
+  module _ (b : Arrays) (end : ℕ) (r : Added) (e : IsEnd lineEnd t at end) (l : end < length t)
+      (f : LineAdded a y (take (end - at) (drop at t)) n r b) where
     abbrev Next : Draft → Type 0
-    Next d = Represents ns′ bits′ known′ steering′ held′ (r .summary) d (suc n)
+    Next d = Represents b (r .summary) d (suc n)
 
     abbrev Answer : Result Draft
     Answer = addLine (s .draft) n (lineOf (take (end - at) (drop at t)))
@@ -119,12 +119,12 @@ module _ (t : Bytes) (ns bits known steering held : List ℕ) (y : Summary) (at 
     pub standing-refused : (number place : ℕ) → r .refusal ≡ Refused number place → readLines noLines 1 (parts lineEnd t) ≡ refused number place
     standing-refused number place q = s .rest ∙ line-refused t (s .draft) n at end e l number place (was-refused Next Answer (r .refusal) number place (f (s .draft) (s .represented)) q)
 
-    pub standing-next : r .refusal ≡ Nothing → Standing t ns′ bits′ known′ steering′ held′ (r .summary) (end + 1) (n + 1)
+    pub standing-next : r .refusal ≡ Nothing → Standing t b (r .summary) (end + 1) (n + 1)
     standing-next q = go (went-on Next Answer (r .refusal) (f (s .draft) (s .represented)) q)
       where
-        go : Went Next Answer → Standing t ns′ bits′ known′ steering′ held′ (r .summary) (end + 1) (n + 1)
+        go : Went Next Answer → Standing t b (r .summary) (end + 1) (n + 1)
         go w = record {
           draft = w .draft;
-          represented = subst (λ (k : ℕ). Represents ns′ bits′ known′ steering′ held′ (r .summary) (w .draft) k) (sym (add-one n)) (w .represented);
+          represented = subst (λ (k : ℕ). Represents b (r .summary) (w .draft) k) (sym (add-one n)) (w .represented);
           rest = s .rest ∙ line-read t (s .draft) n at end e l (w .draft) (w .is);
         }

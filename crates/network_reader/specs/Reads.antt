@@ -2,16 +2,16 @@
 -- Assumes nothing.
 use mathlib.Core.Path.{_≡_}
 use mathlib.Core.Bool.{true}
-use mathlib.Core.List.{List}
+use mathlib.Core.List.{List, []}
 use Prim.Native.Nat.{ℕ, suc, _≤_, _<_}
 use lib.ListN.{length, getD, replicate}
 use Rattle.model.specs.Limits.{maxNodes}
 use Rattle.model.specs.Result.{Result, ok, refused, andThen}
 use Rattle.model.specs.Text.{Bytes, parts, lineEnd}
-use Rattle.model.specs.Network.{Network as ModelNetwork, totalBits, steers, steeringBits}
+use Rattle.model.specs.Network.{Network as ModelNetwork, at, totalBits, steers, steeringBits}
 use Rattle.model.specs.Path.{pathIn, pathLength}
 use Rattle.model.specs.NetworkText.{Draft, noLines, lineOf, addLine, readLines, finish, readNetwork}
-use Rattle.network_words.specs.Words.{wordWidth, wordBit}
+use Rattle.network_words.specs.Words.{wordWidth, wordBit, bitsWord, knownWord}
 use Rattle.network_path.specs.Layout.{nodesOf, configOf, nodeFields, nodeNumbers}
 use Rattle.network_draft.specs.declared.store.Summary.{Summary}
 use Rattle.network_draft.specs.declared.add.Added.{Added}
@@ -24,22 +24,22 @@ use Rattle.network_reader.specs.declared.reader.Acceptance.{Acceptance}
 use Rattle.network_reader.specs.declared.reader.Acceptance.the-variants.{Accepted, Refused as Rejected}
 use Rattle.network_reader.specs.declared.reader.Reading.{Reading}
 use Rattle.network_draft.specs.Store.{Small}
-use Rattle.network_draft.specs.Represents.{Represents, Agrees, InLimits, targetsOf, emptySummary}
+use Rattle.network_draft.specs.Numbers.{NodesStored, TargetsStored}
+use Rattle.network_draft.specs.Represents.{Arrays, arrays, Represents, Agrees, InLimits, targetsOf, emptySummary}
 use Rattle.network_reader.specs.Start.{StartFilled}
 
 -- ---- one line, and the lines in turn
 
-abbrev pub LineAdded : List ℕ → List ℕ → List ℕ → List ℕ → List ℕ → Summary → Bytes → ℕ → Added → List ℕ → List ℕ → List ℕ → List ℕ → List ℕ → Type 0
-LineAdded ns bits known steering held t line n r ns′ bits′ known′ steering′ held′ =
-    (d : Draft) → Represents ns bits known steering held t d n
-    → Agrees (λ e. Represents ns′ bits′ known′ steering′ held′ (r .summary) e (suc n)) (addLine d n (lineOf line)) (r .refusal)
+-- line n leaves the arrays b
+abbrev pub LineAdded : Arrays → Summary → Bytes → ℕ → Added → Arrays → Type 0
+LineAdded a t line n r b = (d : Draft) → Represents a t d n → Agrees (λ e. Represents b (r .summary) e (suc n)) (addLine d n (lineOf line)) (r .refusal)
 
-abbrev pub LinesAre : List ℕ → List ℕ → List ℕ → List ℕ → List ℕ → Result (ℕ × Draft) → Lines → Type 0
-LinesAre ns bits known steering held (ok nd) r = (r .refusal ≡ Nothing) × (r .next ≡ nd .0) × Represents ns bits known steering held (r .summary) (nd .1) (nd .0)
-LinesAre ns bits known steering held (refused number place) r = r .refusal ≡ Refused number place
+abbrev pub LinesAre : Arrays → Result (ℕ × Draft) → Lines → Type 0
+LinesAre a (ok nd) r = (r .refusal ≡ Nothing) × (r .next ≡ nd .0) × Represents a (r .summary) (nd .1) (nd .0)
+LinesAre a (refused number place) r = r .refusal ≡ Refused number place
 
-abbrev pub LinesRead : Bytes → Lines → List ℕ → List ℕ → List ℕ → List ℕ → List ℕ → Type 0
-LinesRead t r ns bits known steering held = LinesAre ns bits known steering held (readLines noLines 1 (parts lineEnd t)) r
+abbrev pub LinesRead : Bytes → Lines → Arrays → Type 0
+LinesRead t r a = LinesAre a (readLines noLines 1 (parts lineEnd t)) r
 
 -- ---- the record
 
@@ -60,14 +60,19 @@ readingBy (Rejected number place) r = refused number place
 abbrev pub readingOf : Reading → Result ModelNetwork
 readingOf r = readingBy (r .verdict) (r .network)
 
--- what an accepted record has besides: array sizes, counts within them, each segment's word of steering bits, and three counts.
--- Free are the numbers of nodes above the count, bits beyond a segment's LEN, and targets beyond their count.
+-- what an accepted record has besides: the sizes of the arrays, each number of a node, each word and each number of a target by
+-- the network, and three counts. Nothing of the record is free.
 pub record RecordComplete (r : Network) : Type 0 where
   pub nodes-size : length (r .nodes) ≡ nodeFields
   pub bits-size : length (r .bits) ≡ nodeNumbers
   pub known-size : length (r .known) ≡ nodeNumbers
   pub steering-size : length (r .steering) ≡ nodeNumbers
   pub in-limits : InLimits (r .summary)
+  pub has-out : r .summary .«has_out» ≡ true
+  pub numbers-are : NodesStored (r .nodes) (recordedNetwork r .nodes)
+  pub bits-are : (s : ℕ) → getD (r .bits) s 0 ≡ bitsWord (at (recordedNetwork r .start) s [])
+  pub known-are : (s : ℕ) → getD (r .known) s 0 ≡ knownWord (at (recordedNetwork r .start) s [])
+  pub numbers-of-targets : TargetsStored (r .summary) (recordedNetwork r .targets)
   pub steering-is : (s b : ℕ) → s ≤ maxNodes → b < wordWidth → wordBit (getD (r .steering) s 0) b ≡ steers (nodesOf (r .nodes) (r .summary .count)) s b
   pub steering-small : Small (r .steering)
   pub totals : r .summary .total ≡ totalBits (recordedNetwork r .nodes)
@@ -76,32 +81,43 @@ pub record RecordComplete (r : Network) : Type 0 where
 
 -- ---- what follows the lines
 
-abbrev pub recordOf : List ℕ → List ℕ → List ℕ → List ℕ → Summary → ℕ → ℕ → Network
-recordOf ns bits known steering t count len = record { nodes = ns; bits = bits; known = known; steering = steering; summary = t; «steering_count» = count; «start_length» = len }
+-- the record but for its last two counts
+pub record Uncounted : Type 0 where
+  pub nodes : List ℕ
+  pub bits : List ℕ
+  pub known : List ℕ
+  pub steering : List ℕ
+  pub summary : Summary
+
+abbrev pub uncounted : List ℕ → List ℕ → List ℕ → List ℕ → Summary → Uncounted
+uncounted ns bits known steering t = record { nodes = ns; bits = bits; known = known; steering = steering; summary = t }
+
+abbrev pub recordOf : Uncounted → ℕ → ℕ → Network
+recordOf u count len = record { nodes = u .nodes; bits = u .bits; known = u .known; steering = u .steering; summary = u .summary; «steering_count» = count; «start_length» = len }
 
 -- an ending that agrees with the model's: the refusal, or the counts of the record
-abbrev pub EndsAs : List ℕ → List ℕ → List ℕ → List ℕ → Summary → Result ModelNetwork → Ending → Type 0
-EndsAs ns bits known steering t a (EndRefused number place) = a ≡ refused number place
-EndsAs ns bits known steering t a (Recorded count len) = (a ≡ ok (recordedNetwork (recordOf ns bits known steering t count len))) × RecordComplete (recordOf ns bits known steering t count len)
+abbrev pub EndsAs : Uncounted → Result ModelNetwork → Ending → Type 0
+EndsAs u a (EndRefused number place) = a ≡ refused number place
+EndsAs u a (Recorded count len) = (a ≡ ok (recordedNetwork (recordOf u count len))) × RecordComplete (recordOf u count len)
 
 -- behind the lines, which have an `out` line, the start bits are filled
-pub record Begun (ns bits known steering : List ℕ) (t : Summary) (d : Draft) (n : ℕ) : Type 0 where
+pub record Begun (u : Uncounted) (d : Draft) (n : ℕ) : Type 0 where
   pub bits₀ : List ℕ
   pub known₀ : List ℕ
   pub held : List ℕ
-  pub represented : Represents ns bits₀ known₀ steering held t d n
-  pub fed : t .«has_out» ≡ true
-  pub filled : StartFilled bits₀ known₀ steering held (t .count) bits known
+  pub represented : Represents (arrays (u .nodes) bits₀ known₀ (u .steering) held) (u .summary) d n
+  pub fed : u .summary .«has_out» ≡ true
+  pub filled : StartFilled (arrays (u .nodes) bits₀ known₀ (u .steering) held) (u .summary .count) (u .bits) (u .known)
 
-abbrev pub StartWalked : List ℕ → List ℕ → List ℕ → List ℕ → Summary → Ending → Type 0
-StartWalked ns bits known steering t r = (d : Draft) (n : ℕ) → Begun ns bits known steering t d n → EndsAs ns bits known steering t (finish n d (d .feeds)) r
+abbrev pub StartWalked : Uncounted → Ending → Type 0
+StartWalked u r = (d : Draft) (n : ℕ) → Begun u d n → EndsAs u (finish n d (d .feeds)) r
 
 abbrev pub finishOf : Result (ℕ × Draft) → Result ModelNetwork
 finishOf a = andThen a (λ r. finish (r .0) (r .1) (r .1 .feeds))
 
-abbrev pub LinesFinished : List ℕ → List ℕ → List ℕ → List ℕ → List ℕ → Lines → Ending → List ℕ → List ℕ → Type 0
-LinesFinished ns bits known steering held l r bits′ known′ =
-    (a : Result (ℕ × Draft)) → LinesAre ns bits known steering held a l → EndsAs ns bits′ known′ steering (l .summary) (finishOf a) r
+abbrev pub LinesFinished : Arrays → Lines → Ending → List ℕ → List ℕ → Type 0
+LinesFinished a l r bits known =
+    (x : Result (ℕ × Draft)) → LinesAre a x l → EndsAs (uncounted (a .nodes) bits known (a .steering) (l .summary)) (finishOf x) r
 
 -- ---- the whole text
 

@@ -3,33 +3,38 @@
 use mathlib.Core.Path.{_≡_}
 use mathlib.Core.Bool.{cond}
 use mathlib.Core.List.{List}
-use Prim.Native.Nat.{ℕ, _≤_}
+use Prim.Native.Nat.{ℕ, _-_, _^_, _≤_}
 use lib.ListN.{length, getD}
 use lib.Dec.{eqb}
-use Rattle.network_words.specs.Words.{allKnown}
+use Rattle.model.specs.Network.{lenOf}
+use Rattle.network_path.specs.Layout.{nodeAt}
+use Rattle.network_draft.specs.Represents.{Arrays}
 
--- the known marks of a segment without a `hold` line, by its word of steering bits
-abbrev pub freeMarks : ℕ → ℕ
-freeMarks steering = cond (eqb steering 0) 0 allKnown
+-- the known marks of a segment of len bits without a `hold` line, by its word of steering bits
+abbrev pub freeMarks : ℕ → ℕ → ℕ
+freeMarks steering len = cond (eqb steering 0) 0 (2 ^ len - 1)
 
 -- the two words of segment s once it is filled
-abbrev pub startBits : List ℕ → List ℕ → ℕ → ℕ
-startBits bits held s = cond (eqb (getD held s 0) 1) (getD bits s 0) 0
+abbrev pub startBits : Arrays → ℕ → ℕ
+startBits a s = cond (eqb (getD (a .held) s 0) 1) (getD (a .bits) s 0) 0
 
-abbrev pub startMarks : List ℕ → List ℕ → List ℕ → ℕ → ℕ
-startMarks known steering held s = cond (eqb (getD held s 0) 1) (getD known s 0) (freeMarks (getD steering s 0))
+abbrev pub startMarks : Arrays → ℕ → ℕ
+startMarks a s = cond (eqb (getD (a .held) s 0) 1) (getD (a .known) s 0) (freeMarks (getD (a .steering) s 0) (lenOf (nodeAt (a .nodes) s)))
 
 -- one segment is filled, the others are as they were
-pub record OneFilled (bits known steering held : List ℕ) (s : ℕ) (bits′ known′ : List ℕ) : Type 0 where
-  pub bits-size : length bits′ ≡ length bits
-  pub known-size : length known′ ≡ length known
-  pub word : getD bits′ s 0 ≡ startBits bits held s
-  pub mark : getD known′ s 0 ≡ startMarks known steering held s
-  pub bits-others : (r : ℕ) → (r ≡ s → ⊥) → getD bits′ r 0 ≡ getD bits r 0
-  pub known-others : (r : ℕ) → (r ≡ s → ⊥) → getD known′ r 0 ≡ getD known r 0
+pub record OneFilled (a : Arrays) (s : ℕ) (bits known : List ℕ) : Type 0 where
+  pub bits-size : length bits ≡ length (a .bits)
+  pub known-size : length known ≡ length (a .known)
+  pub word : getD bits s 0 ≡ startBits a s
+  pub mark : getD known s 0 ≡ startMarks a s
+  pub bits-others : (r : ℕ) → (r ≡ s → ⊥) → getD bits r 0 ≡ getD (a .bits) r 0
+  pub known-others : (r : ℕ) → (r ≡ s → ⊥) → getD known r 0 ≡ getD (a .known) r 0
 
-pub record StartFilled (bits known steering held : List ℕ) (count : ℕ) (bits′ known′ : List ℕ) : Type 0 where
-  pub bits-size : length bits′ ≡ length bits
-  pub known-size : length known′ ≡ length known
-  pub words : (s : ℕ) → 1 ≤ s → s ≤ count → getD bits′ s 0 ≡ startBits bits held s
-  pub marks : (s : ℕ) → 1 ≤ s → s ≤ count → getD known′ s 0 ≡ startMarks known steering held s
+-- segments 1 to count are filled, the other words are as they were
+pub record StartFilled (a : Arrays) (count : ℕ) (bits known : List ℕ) : Type 0 where
+  pub bits-size : length bits ≡ length (a .bits)
+  pub known-size : length known ≡ length (a .known)
+  pub words : (s : ℕ) → 1 ≤ s → s ≤ count → getD bits s 0 ≡ startBits a s
+  pub marks : (s : ℕ) → 1 ≤ s → s ≤ count → getD known s 0 ≡ startMarks a s
+  pub bits-others : (s : ℕ) → (1 ≤ s → s ≤ count → ⊥) → getD bits s 0 ≡ getD (a .bits) s 0
+  pub known-others : (s : ℕ) → (1 ≤ s → s ≤ count → ⊥) → getD known s 0 ≡ getD (a .known) s 0

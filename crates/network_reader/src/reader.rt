@@ -27,8 +27,8 @@ ghost use lib.ListN.{length};
 ghost use Rattle.model.specs.Limits.{maxNetworkBytes};
 ghost use Rattle.model.specs.Result.{Result};
 ghost use Rattle.model.specs.NetworkText.{Draft, noLines};
-ghost use Rattle.network_draft.specs.Represents.{Represents, Drafted, emptySummary};
-ghost use Rattle.network_reader.specs.Reads.{LineAdded, LinesAre, LinesRead, Begun, StartWalked, LinesFinished, noNetwork, IsReading};
+ghost use Rattle.network_draft.specs.Represents.{arrays, Represents, Drafted, emptySummary};
+ghost use Rattle.network_reader.specs.Reads.{LineAdded, LinesAre, LinesRead, uncounted, Begun, StartWalked, LinesFinished, noNetwork, IsReading};
 
 // The record of a network; its last two counts are of the distinct steering bits and of the bits of the start's path.
 pub struct Network {
@@ -82,8 +82,8 @@ fn add_line(
     line: &[u8],
     n: usize,
 ) -> Added
-    requires { ⌜ Drafted (now nodes) (now bits) (now known) (now steering) (now held) t n ⌝ }
-    ensures { λ r. ⌜ LineAdded (now (nodes .entry)) (now (bits .entry)) (now (known .entry)) (now (steering .entry)) (now (held .entry)) t (now (line .entry)) n r (now (nodes .exit)) (now (bits .exit)) (now (known .exit)) (now (steering .exit)) (now (held .exit)) ⌝ }
+    requires { ⌜ Drafted (arrays (now nodes) (now bits) (now known) (now steering) (now held)) t n ⌝ }
+    ensures { λ r. ⌜ LineAdded (arrays (now (nodes .entry)) (now (bits .entry)) (now (known .entry)) (now (steering .entry)) (now (held .entry))) t (now (line .entry)) n r (arrays (now (nodes .exit)) (now (bits .exit)) (now (known .exit)) (now (steering .exit)) (now (held .exit))) ⌝ }
 {
     let p = parse(line);
     let start = p.start;
@@ -136,8 +136,8 @@ fn read_lines(
     steering: &mut Words,
     held: &mut [u16; NODE_NUMBERS],
 ) -> Lines
-    requires { ⌜ (length (now text) ≤ maxNetworkBytes) × Represents (now nodes) (now bits) (now known) (now steering) (now held) emptySummary noLines 1 ⌝ }
-    ensures { λ r. ⌜ LinesRead (now (text .entry)) r (now (nodes .exit)) (now (bits .exit)) (now (known .exit)) (now (steering .exit)) (now (held .exit)) ⌝ }
+    requires { ⌜ (length (now text) ≤ maxNetworkBytes) × Represents (arrays (now nodes) (now bits) (now known) (now steering) (now held)) emptySummary noLines 1 ⌝ }
+    ensures { λ r. ⌜ LinesRead (now (text .entry)) r (arrays (now (nodes .exit)) (now (bits .exit)) (now (known .exit)) (now (steering .exit)) (now (held .exit))) ⌝ }
 {
     let mut summary = empty_summary();
     let mut at: usize = 0;
@@ -197,8 +197,8 @@ fn walk_start<'a>(
     steering: &'a Words,
     t: Summary,
 ) -> Ending
-    requires { ⌜ ((d : Draft) × ((n : ℕ) × Begun (now nodes) (now bits) (now known) (now steering) t d n)) ⌝ }
-    ensures { λ r. ⌜ StartWalked (now (nodes .entry)) (now (bits .entry)) (now (known .entry)) (now (steering .entry)) t r ⌝ }
+    requires { ⌜ ((d : Draft) × ((n : ℕ) × Begun (uncounted (now nodes) (now bits) (now known) (now steering) t) d n)) ⌝ }
+    ensures { λ r. ⌜ StartWalked (uncounted (now (nodes .entry)) (now (bits .entry)) (now (known .entry)) (now (steering .entry)) t) r ⌝ }
 {
     let mut way = [0u16; MAX_NODES];
     match find_path(nodes, bits, known, t.out, &mut way) {
@@ -220,8 +220,8 @@ fn finish<'a>(
     held: &'a [u16; NODE_NUMBERS],
     lines: Lines,
 ) -> Ending
-    requires { ⌜ ((a : Result (ℕ × Draft)) × LinesAre (now nodes) (now bits) (now known) (now steering) (now held) a lines) ⌝ }
-    ensures { λ r. ⌜ LinesFinished (now (nodes .entry)) (now (bits .entry)) (now (known .entry)) (now (steering .entry)) (now (held .entry)) lines r (now (bits .exit)) (now (known .exit)) ⌝ }
+    requires { ⌜ ((a : Result (ℕ × Draft)) × LinesAre (arrays (now nodes) (now bits) (now known) (now steering) (now held)) a lines) ⌝ }
+    ensures { λ r. ⌜ LinesFinished (arrays (now (nodes .entry)) (now (bits .entry)) (now (known .entry)) (now (steering .entry)) (now (held .entry))) lines r (now (bits .exit)) (now (known .exit)) ⌝ }
 {
     let refusal = lines.refusal;
     match refusal {
@@ -234,7 +234,7 @@ fn finish<'a>(
     if !t.has_out {
         return Ending::Refused(refusal::ORDER, lines.next);
     }
-    fill_start(bits, known, steering, held, t.count);
+    fill_start(nodes, bits, known, steering, held, t.count);
     walk_start(nodes, bits, known, steering, t)
 }
 

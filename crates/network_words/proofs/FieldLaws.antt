@@ -12,11 +12,12 @@ use lib.Dec.{eqb}
 use lib.ListN.{length, getD, drop, drop-of-length-le}
 use lib.Pow.{pow-add, pow-mono}
 use lib.Seq.{drop-cons}
+use borrow.Author.Tests.{ne-eqb}
 use Rattle.model.specs.Network.{tabulate}
 use Rattle.model.specs.Path.{bitValue}
 use Rattle.model.specs.Text.{Trit, bind, bit, trit, bitsFrom}
 use Rattle.model.proofs.Lists.{none-some, some-same, eqb-is}
-use Rattle.network_words.specs.Words.{wordBit, tritAt, tritsOf, byteBit, wordFrom, byteKnown}
+use Rattle.network_words.specs.Words.{tritAt, tritsOf, wordOf, isOne, isKnown, bitsWord, knownWord, byteBit, wordFrom, byteKnown}
 use Rattle.network_words.proofs.WordLaws.{value-small, low-bit, higher-bit, tabulate-front}
 
 -- ---- the loop: i bytes are in the word w, and the other bytes give the whole
@@ -102,9 +103,45 @@ trits-of-field f ts e =
     (λ b w k v p. rw (low-bit (byteBit b) w, low-bit (byteKnown b) k) (trit-read b v p))
     (λ x y w k j. rw (higher-bit x w j, higher-bit y k j)) f [] ts 0 0 e refl)
 
+-- the word of a list with a field's entries before it
+module _ {A : Type 0} (read : ℕ → Option A) (test : ℕ → Bool) (value : List A → ℕ)
+    (step : (b : ℕ) (v : A) (vs : List A) → read b ≡ some v → value (v ∷ vs) ≡ bitValue (test b) + 2 * value vs) where
+  word-read : (f : List ℕ) (above vs : List A) → bitsFrom read above f ≡ some vs → wordFrom test (value above) f ≡ value vs
+  unfolding bitsFrom wordFrom
+  word-read [] above vs e = ap value (some-same above vs e)
+  word-read (b ∷ f) above vs e = go (read b) refl e (λ v q. word-read f (v ∷ above) vs q)
+    where
+      go : (o : Option A) → read b ≡ o → bind o (λ v. bitsFrom read (v ∷ above) f) ≡ some vs
+          → ((v : A) → bitsFrom read (v ∷ above) f ≡ some vs → wordFrom test (value (v ∷ above)) f ≡ value vs)
+          → wordFrom test (bitValue (test b) + 2 * value above) f ≡ value vs
+      go none p q r = absurd (none-some vs q)
+      go (some v) p q r = rw (step b v above p) at (r v q)
+
 -- the word of a write target
-pub bits-of-field : (f : List ℕ) (bs : List Bool) → bitsFrom bit [] f ≡ some bs → tabulate (wordBit (wordFrom byteBit 0 f)) 0 (length f) ≡ bs
-bits-of-field f bs e =
-    rw zero-add at (entries-read bit (λ w k j. wordBit w j)
-    (λ b w k v p. low-bit (byteBit b) w ∙ bit-read b v p)
-    (λ x y w k j. higher-bit x w j) f [] bs 0 0 e refl)
+pub word-of-bits : (f : List ℕ) (bs : List Bool) → bitsFrom bit [] f ≡ some bs → wordFrom byteBit 0 f ≡ wordOf bs
+unfolding wordOf
+word-of-bits f bs e = word-read bit byteBit wordOf (λ b v vs p. rw (bit-read b v p)) f [] bs e
+
+-- the two words of start bits
+one-read : (b : ℕ) (v : Trit) → trit b ≡ some v → byteBit b ≡ isOne v
+one-read b v e = go (eqb b 88) refl ∙ ap isOne (trit-read b v e)
+  where
+    go : (x : Bool) → eqb b 88 ≡ x → byteBit b ≡ isOne (cond (not x) (some (byteBit b)) none)
+    go true p = let n : b ≡ 88 = eqb-is b 88 p in ne-eqb b 49 (λ z. omega arith)
+    go false p = refl
+
+known-read : (b : ℕ) (v : Trit) → trit b ≡ some v → byteKnown b ≡ isKnown v
+known-read b v e = go (byteKnown b) ∙ ap isKnown (trit-read b v e)
+  where
+    go : (x : Bool) → x ≡ isKnown (cond x (some (byteBit b)) none)
+    go true = refl
+    go false = refl
+
+module _ (f : List ℕ) (ts : List Trit) (e : bitsFrom trit [] f ≡ some ts) where
+  pub bits-word-of : wordFrom byteBit 0 f ≡ bitsWord ts
+  unfolding wordOf
+  bits-word-of = word-read trit byteBit bitsWord (λ b v vs p. rw (one-read b v p)) f [] ts e
+
+  pub known-word-of : wordFrom byteKnown 0 f ≡ knownWord ts
+  unfolding wordOf
+  known-word-of = word-read trit byteKnown knownWord (λ b v vs p. rw (known-read b v p)) f [] ts e

@@ -1,8 +1,8 @@
 -- Words of a segment's bits by numbers: "two words a segment, bits and known marks".
 -- Assumes nothing.
-use mathlib.Core.Bool.{Bool, cond, not}
+use mathlib.Core.Bool.{Bool, true, false, cond, not}
 use mathlib.Core.Option.{none, some}
-use mathlib.Core.List.{List, [], _∷_}
+use mathlib.Core.List.{List, [], _∷_, map}
 use Prim.Native.Nat.{ℕ, _+_, _-_, _*_, _/_, _%_, _^_}
 use lib.Dec.{eqb}
 use Rattle.model.specs.Text.{Bytes, Trit}
@@ -27,16 +27,31 @@ tritAt bits known b = cond (wordBit known b) (some (wordBit bits b)) none
 abbrev pub tritsOf : ℕ → ℕ → ℕ → List Trit
 tritsOf len bits known = tabulate (tritAt bits known) 0 len
 
+-- the word whose bit j is the j-th of these bits
+unfoldable pub wordOf : List Bool → ℕ
+wordOf [] = 0
+wordOf (b ∷ bs) = bitValue b + 2 * wordOf bs
+
+abbrev pub isOne : Trit → Bool
+isOne none = false
+isOne (some b) = b
+
+abbrev pub isKnown : Trit → Bool
+isKnown none = false
+isKnown (some b) = true
+
+-- the two words of these bits; an unknown bit is 0 in both
+abbrev pub bitsWord : List Trit → ℕ
+bitsWord ts = wordOf (map isOne ts)
+
+abbrev pub knownWord : List Trit → ℕ
+knownWord ts = wordOf (map isKnown ts)
+
 -- ---- words of texts
 
 -- a bit of a plan text as a bit
 abbrev pub byteBit : ℕ → Bool
 byteBit b = eqb b 49
-
--- the word whose bit j is the j-th of these bits
-unfoldable pub wordOf : List Bool → ℕ
-wordOf [] = 0
-wordOf (b ∷ bs) = bitValue b + 2 * wordOf bs
 
 -- a word of len bits after one place: b at the top, the lowest bit gone
 abbrev pub shiftIn : ℕ → ℕ → ℕ → ℕ

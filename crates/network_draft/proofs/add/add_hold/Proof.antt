@@ -2,7 +2,7 @@
 -- and otherwise the arrays represent the draft with this hold more.
 -- Assumes nothing.
 use mathlib.Core.Bool.{true}
-use Rattle.network_draft.specs.Represents.{Represents}
+use Rattle.network_draft.specs.Represents.{arrays, Represents}
 use Rattle.network_path.specs.Layout.{nodeAt}
 use lib.ListN.{length}
 use mathlib.Core.List.{List, []}
@@ -39,20 +39,20 @@ its-length c =
 
 -- so they fit it in the draft
 fits : (c : tie.Else3) {bits known steering held : List ℕ} {d : Draft} → isSome (bitsFrom trit [] (start (c .before) .args .f .now)) ≡ true
-    → Represents (start (c .before) .args .nodes .now) bits known steering held (start (c .before) .args .t) d (start (c .before) .args .n)
+    → Represents (arrays (start (c .before) .args .nodes .now) bits known steering held) (start (c .before) .args .t) d (start (c .before) .args .n)
     → fitsBits (d .nodes) (start (c .before) .args .s) (bitsIn trit (start (c .before) .args .f .now)) ≡ true
 fits c form w =
     let at-len-of = c .before .before in
     let a = start (c .before) .args in
-    let len = represented-len _ _ _ _ _ _ _ _ w (at-len-of .len-of .result) (a .s) (at-len-of .len-of .ensures .0) in
+    let len = represented-len w (at-len-of .len-of .result) (a .s) (at-len-of .len-of .ensures .0) in
     let many = bits-in-length trit (a .f .now) form ∙ c .if3 .left ∙ sym len in
-    fit _ _ _ _ _ _ _ _ w (a .s) (bitsIn trit (a .f .now)) (λ z. c .before .if2 .left (sym len ∙ z)) many
+    fit w (a .s) (bitsIn trit (a .f .now)) (λ z. c .before .if2 .left (sym len ∙ z)) many
 
 returns : tie.Need-returns
 returns c =
     let a = c .before .before .before .args in
     λ steering d form w.
-    let out = represented-out _ _ _ _ _ _ _ _ w ∙ not-true _ (c .if1 .taken) in
+    let out = represented-out w ∙ not-true _ (c .if1 .taken) in
     agrees-refused _ _ _ 4 (a .n) (hold-4 d (a .n) (a .s) (bitsIn trit (a .f .now)) out) refl
 
 len-of-requires : tie.Need-len-of-requires
@@ -65,9 +65,9 @@ returns-2 c =
     let a = at-if1 .before .before .before .args in
     let bs = bitsIn trit (a .f .now) in
     λ steering d form w.
-    let out = represented-out _ _ _ _ _ _ _ _ w ∙ not-false _ (at-if1 .if1 .left) in
-    let len = represented-len _ _ _ _ _ _ _ _ w (at-len-of .len-of .result) (a .s) (at-len-of .len-of .ensures .0) in
-    agrees-refused _ _ _ 6 (a .n) (hold-6 d (a .n) (a .s) bs out (unfit-none _ _ _ _ _ _ _ _ w (a .s) bs (len ∙ c .if2 .taken))) refl
+    let out = represented-out w ∙ not-false _ (at-if1 .if1 .left) in
+    let len = represented-len w (at-len-of .len-of .result) (a .s) (at-len-of .len-of .ensures .0) in
+    agrees-refused _ _ _ 6 (a .n) (hold-6 d (a .n) (a .s) bs out (unfit-none w (a .s) bs (len ∙ c .if2 .taken))) refl
 
 returns-3 : tie.Need-returns-3
 returns-3 c =
@@ -76,9 +76,9 @@ returns-3 c =
     let a = at-if1 .before .before .before .args in
     let bs = bitsIn trit (a .f .now) in
     λ steering d form w.
-    let out = represented-out _ _ _ _ _ _ _ _ w ∙ not-false _ (at-if1 .if1 .left) in
-    let len = represented-len _ _ _ _ _ _ _ _ w (at-len-of .len-of .result) (a .s) (at-len-of .len-of .ensures .0) in
-    let unfit = unfit-length _ _ _ _ _ _ _ _ w (a .s) bs (λ z. c .if3 .taken (sym (bits-in-length trit (a .f .now) form) ∙ z ∙ len)) in
+    let out = represented-out w ∙ not-false _ (at-if1 .if1 .left) in
+    let len = represented-len w (at-len-of .len-of .result) (a .s) (at-len-of .len-of .ensures .0) in
+    let unfit = unfit-length w (a .s) bs (λ z. c .if3 .taken (sym (bits-in-length trit (a .f .now) form) ∙ z ∙ len)) in
     agrees-refused _ _ _ 6 (a .n) (hold-6 d (a .n) (a .s) bs out unfit) refl
 
 mul-if4 : tie.Need-mul-if4
@@ -94,7 +94,7 @@ returns-4 c =
     let at-if1 = at-if2 .before .before in
     let a = at-if1 .before .before .before .args in
     λ steering d form w.
-    let out = represented-out _ _ _ _ _ _ _ _ w ∙ not-false _ (at-if1 .if1 .left) in
+    let out = represented-out w ∙ not-false _ (at-if1 .if1 .left) in
     let again = sym (w .held-is (a .s) (in-range at-if2)) ∙ eq-eqb _ 1 (c .if4 .taken) in
     agrees-refused _ _ _ 6 (a .n) (held-6 d (a .n) (a .s) (bitsIn trit (a .f .now)) out (fits at-if3 form w) again) refl
 
@@ -130,12 +130,12 @@ returns-5 c =
     let a = at-if1 .before .before .before .args in
     let bs = bitsIn trit (a .f .now) in
     λ steering d form w.
-    let out = represented-out _ _ _ _ _ _ _ _ w ∙ not-false _ (at-if1 .if1 .left) in
+    let out = represented-out w ∙ not-false _ (at-if1 .if1 .left) in
     let fresh = sym (w .held-is (a .s) (in-range at-if2)) ∙ ne-eqb _ 1 (c .before .if4 .left) in
     let is = hold-added d (a .n) (a .s) bs out (fits at-if3 form w) fresh in
     agrees-ok _ _ _ (withHold d (a .s) bs) is refl
     (rw (c .words-of .ensures .0, c .words-of .ensures .1)
-    (with-hold (a .nodes .now) (a .bits .now) (a .known .now) steering (a .held .now) (a .t) d (a .n) w (a .s) (a .f .now) form (in-range at-if2) (its-length at-if3) fresh is))
+    (with-hold w (a .s) (a .f .now) form (in-range at-if2) (its-length at-if3) fresh is))
 
 pub add-hold-spec : {M : Type 1} → statement M
 add-hold-spec =

@@ -7,6 +7,7 @@ use Prim.Native.Nat.{_+_, _≤_, _<_}
 use Rattle.model.specs.NetworkText.{withNode}
 use mathlib.Core.Path.{refl, sym, _∙_}
 use Rattle.network_draft.proofs.AddingNodes.{node-4, node-2, node-3, bits-3, node-added, good-form, longer}
+use Rattle.network_draft.proofs.Nodes.{numbers-size}
 use Rattle.network_draft.proofs.Representing.{agrees-refused, agrees-ok, represented-out, represented-count}
 use Rattle.network_line.specs.Line.{nodeFor}
 use native.Mathlib.Omega.{arith}
@@ -21,7 +22,7 @@ returns : tie.Need-returns
 returns c =
     let a = c .before .before .args in
     λ bits known held d w.
-    agrees-refused _ _ _ 4 (a .n) (node-4 d (a .n) (nodeFor (a .x)) (represented-out _ _ _ _ _ _ _ _ w ∙ c .before .if1 .taken)) (c .refuse .ensures)
+    agrees-refused _ _ _ 4 (a .n) (node-4 d (a .n) (nodeFor (a .x)) (represented-out w ∙ c .before .if1 .taken)) (c .refuse .ensures)
 
 is-outside-requires : tie.Need-is-outside-requires
 is-outside-requires c κs = search needs
@@ -35,7 +36,7 @@ returns-2 c =
     let at-if1 = at-is-outside .before in
     let a = at-if1 .before .args in
     λ bits known held d w.
-    let no-out = represented-out _ _ _ _ _ _ _ _ w ∙ at-if1 .if1 .left in
+    let no-out = represented-out w ∙ at-if1 .if1 .left in
     agrees-refused _ _ _ 2 (a .n) (node-2 d (a .n) (nodeFor (a .x)) no-out (sym (at-is-outside .is-outside .ensures) ∙ c .before .if2 .taken)) (c .refuse2 .ensures)
 
 refuse-requires-3 : tie.Need-refuse-requires-3
@@ -48,9 +49,9 @@ returns-3 c =
     let at-if1 = at-is-outside .before in
     let a = at-if1 .before .args in
     λ bits known held d w.
-    let no-out = represented-out _ _ _ _ _ _ _ _ w ∙ at-if1 .if1 .left in
+    let no-out = represented-out w ∙ at-if1 .if1 .left in
     let inside = sym (at-is-outside .is-outside .ensures) ∙ at-if2 .if2 .left in
-    let many : 128 ≤ length (d .nodes) = omega (arith, represented-count _ _ _ _ _ _ _ _ w, c .before .if3 .taken) in
+    let many : 128 ≤ length (d .nodes) = omega (arith, represented-count w, c .before .if3 .taken) in
     agrees-refused _ _ _ 3 (a .n) (node-3 d (a .n) (nodeFor (a .x)) no-out inside many) (c .refuse3 .ensures)
 
 bits-of-requires : tie.Need-bits-of-requires
@@ -71,9 +72,9 @@ returns-4 c =
     let at-if1 = at-is-outside .before in
     let a = at-if1 .before .args in
     λ bits known held d w.
-    let no-out = represented-out _ _ _ _ _ _ _ _ w ∙ at-if1 .if1 .left in
+    let no-out = represented-out w ∙ at-if1 .if1 .left in
     let inside = sym (at-is-outside .is-outside .ensures) ∙ at-if2 .if2 .left in
-    let few : length (d .nodes) < 128 = omega (arith, represented-count _ _ _ _ _ _ _ _ w, at-if3 .if3 .left) in
+    let few : length (d .nodes) < 128 = omega (arith, represented-count w, at-if3 .if3 .left) in
     let long : 4000 < totalBits (d .nodes) + lenOf (nodeFor (a .x)) = omega (arith, w .total-is, at-bits-of .bits-of .ensures, c .before .if4 .taken) in
     agrees-refused _ _ _ 3 (a .n) (bits-3 d (a .n) (nodeFor (a .x)) no-out inside few long) (c .refuse4 .ensures)
 
@@ -84,7 +85,9 @@ numbers-of-requires : tie.Need-numbers-of-requires
 numbers-of-requires c κs = search needs
 
 store-numbers-requires : tie.Need-store-numbers-requires
-store-numbers-requires c κs = search needs
+store-numbers-requires c κs =
+    let a = c .before .before .before .before .before .before .before .before .args in
+    (search needs, search needs, rw (c .numbers-of .ensures) (numbers-size (nodeFor (a .x))))
 
 mark-steering-requires : tie.Need-mark-steering-requires
 mark-steering-requires c κs = search needs
@@ -106,14 +109,14 @@ returns-5 c =
     let a = at-start .args in
     let x = nodeFor (a .x) in
     λ bits known held d w.
-    let no-out = represented-out _ _ _ _ _ _ _ _ w ∙ at-if1 .if1 .left in
+    let no-out = represented-out w ∙ at-if1 .if1 .left in
     let inside = sym (at-is-outside .is-outside .ensures) ∙ at-if2 .if2 .left in
-    let few : length (d .nodes) < 128 = omega (arith, represented-count _ _ _ _ _ _ _ _ w, at-if3 .if3 .left) in
+    let few : length (d .nodes) < 128 = omega (arith, represented-count w, at-if3 .if3 .left) in
     let short : totalBits (d .nodes) + lenOf x ≤ 4000 = omega (arith, w .total-is, at-bits-of .bits-of .ensures, at-if4 .if4 .left) in
     agrees-ok _ _ _ (withNode d x) (node-added d (a .n) x no-out inside few short) refl
     (rw (at-bits-of .bits-of .ensures)
-    (longer _ bits known (a .steering .now) held _ d _ w x (good-form (a .x) (at-start .pre .0)) _ _ _
-    (at-numbers-of .numbers-of .ensures) (at-store-numbers .store-numbers .ensures) (c .mark-steering .ensures) no-out inside (search needs) short))
+    (longer w x (good-form (a .x) (at-start .pre .0)) _ _
+    (rw (at-numbers-of .numbers-of .ensures) at (at-store-numbers .store-numbers .ensures)) (c .mark-steering .ensures) no-out inside (search needs) short))
 
 pub add-node-spec : {M : Type 1} → statement M
 add-node-spec =

@@ -21,7 +21,7 @@ returns : tie.Need-returns
 returns c =
     let a = c .before .before .args in
     λ bits known steering held d w.
-    agrees-refused _ _ _ 4 (a .n) (out-4 d (a .n) (a .k) (represented-out _ _ _ _ _ _ _ _ w ∙ c .before .if1 .taken)) (c .refuse .ensures)
+    agrees-refused _ _ _ 4 (a .n) (out-4 d (a .n) (a .k) (represented-out w ∙ c .before .if1 .taken)) (c .refuse .ensures)
 
 refuse-requires-2 : tie.Need-refuse-requires-2
 refuse-requires-2 c κs = search needs
@@ -31,8 +31,8 @@ returns-2 c =
     let at-if1 = c .before .before in
     let a = at-if1 .before .args in
     λ bits known steering held d w.
-    let no-out = represented-out _ _ _ _ _ _ _ _ w ∙ at-if1 .if1 .left in
-    agrees-refused _ _ _ 2 (a .n) (out-2 d (a .n) (a .k) no-out (omega (arith, represented-count _ _ _ _ _ _ _ _ w, c .before .if2 .taken))) (c .refuse2 .ensures)
+    let no-out = represented-out w ∙ at-if1 .if1 .left in
+    agrees-refused _ _ _ 2 (a .n) (out-2 d (a .n) (a .k) no-out (omega (arith, represented-count w, c .before .if2 .taken))) (c .refuse2 .ensures)
 
 first-bad-requires : tie.Need-first-bad-requires
 first-bad-requires c κs = (omega (arith, c .before .before .pre .0 .nodes-fit), c .before .before .pre .1)
@@ -47,8 +47,8 @@ returns-3 c =
     let at-if1 = at-if2 .before in
     let a = at-if1 .before .args in
     λ bits known steering held d w.
-    let no-out = represented-out _ _ _ _ _ _ _ _ w ∙ at-if1 .if1 .left in
-    let there : a .k ≤ length (d .nodes) = omega (arith, represented-count _ _ _ _ _ _ _ _ w, at-if2 .if2 .left) in
+    let no-out = represented-out w ∙ at-if1 .if1 .left in
+    let there : a .k ≤ length (d .nodes) = omega (arith, represented-count w, at-if2 .if2 .left) in
     let first = at-first-bad .first-bad .ensures ∙ ap (λ (ns : List Node). firstBad ns 1 ns) (w .nodes-are) in
     agrees-refused _ _ _ 5 _ (out-5 d (a .n) (a .k) no-out there (at-first-bad .first-bad .result) first (c .before .if3 .taken)) (c .refuse3 .ensures)
 
@@ -58,11 +58,11 @@ returns-4 c =
     let at-if1 = at-if2 .before in
     let a = at-if1 .before .args in
     λ bits known steering held d w.
-    let no-out = represented-out _ _ _ _ _ _ _ _ w ∙ at-if1 .if1 .left in
-    let there : a .k ≤ length (d .nodes) = omega (arith, represented-count _ _ _ _ _ _ _ _ w, at-if2 .if2 .left) in
+    let no-out = represented-out w ∙ at-if1 .if1 .left in
+    let there : a .k ≤ length (d .nodes) = omega (arith, represented-count w, at-if2 .if2 .left) in
     let first = c .before .first-bad .ensures ∙ ap (λ (ns : List Node). firstBad ns 1 ns) (w .nodes-are) in
     let is = out-added d (a .n) (a .k) no-out there (c .before .first-bad .result) first (c .if3 .left) in
-    agrees-ok _ _ _ (withOut d (a .k)) is refl (fed _ _ _ _ _ _ d (a .n) (a .k) w is)
+    agrees-ok _ _ _ (withOut d (a .k)) is refl (fed w (a .k) is)
 
 pub add-out-spec : {M : Type 1} → statement M
 add-out-spec =

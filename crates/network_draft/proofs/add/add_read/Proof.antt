@@ -9,7 +9,7 @@ use mathlib.Core.List.{[]}
 use Rattle.model.proofs.Lists.{true-false}
 use borrow.Author.Tests.{not-true, not-false}
 use native.Mathlib.Omega.{arith}
-use mathlib.Core.Path.{sym, _∙_}
+use mathlib.Core.Path.{refl, sym, _∙_}
 use borrow.Author.Needs.{needs}
 use Rattle.network_draft.proofs.add.add_read.Statement.{statement}
 use Rattle.network_draft.proofs.add.add_read.Tie as tie
@@ -21,7 +21,7 @@ returns : tie.Need-returns
 returns c =
     let a = c .before .before .before .args in
     λ bits known held d w.
-    agrees-refused _ _ _ 4 (a .n) (target-4 d (a .n) (read (a .s)) (represented-out _ _ _ _ _ _ _ _ w ∙ not-true _ (c .before .if1 .taken))) (c .refuse .ensures)
+    agrees-refused _ _ _ 4 (a .n) (target-4 d (a .n) (read (a .s)) (represented-out w ∙ not-true _ (c .before .if1 .taken))) (c .refuse .ensures)
 
 len-of-requires : tie.Need-len-of-requires
 len-of-requires c κs = search needs
@@ -35,9 +35,9 @@ returns-2 c =
     let at-if1 = at-len-of .before in
     let a = at-if1 .before .before .args in
     λ bits known held d w.
-    let out = represented-out _ _ _ _ _ _ _ _ w ∙ not-false _ (at-if1 .if1 .left) in
-    let len = represented-len _ _ _ _ _ _ _ _ w (at-len-of .len-of .result) (a .s) (at-len-of .len-of .ensures .0) in
-    agrees-refused _ _ _ 6 (a .n) (target-6 d (a .n) (read (a .s)) out (no-bits _ _ _ _ _ _ _ _ w (a .s) (len ∙ c .before .if2 .taken))) (c .refuse2 .ensures)
+    let out = represented-out w ∙ not-false _ (at-if1 .if1 .left) in
+    let len = represented-len w (at-len-of .len-of .result) (a .s) (at-len-of .len-of .ensures .0) in
+    agrees-refused _ _ _ 6 (a .n) (target-6 d (a .n) (read (a .s)) out (no-bits w (a .s) (len ∙ c .before .if2 .taken))) (c .refuse2 .ensures)
 
 add-target-requires : tie.Need-add-target-requires
 add-target-requires c κs =
@@ -51,11 +51,11 @@ returns-3 c =
     let at-if1 = at-len-of .before in
     let a = at-if1 .before .before .args in
     λ bits known held d w.
-    let out = represented-out _ _ _ _ _ _ _ _ w ∙ not-false _ (at-if1 .if1 .left) in
-    let len = represented-len _ _ _ _ _ _ _ _ w (at-len-of .len-of .result) (a .s) (at-len-of .len-of .ensures .0) in
-    let fits = with-bits _ _ _ _ _ _ _ _ w (a .s) (λ z. c .before .if2 .left (sym len ∙ z)) in
+    let out = represented-out w ∙ not-false _ (at-if1 .if1 .left) in
+    let len = represented-len w (at-len-of .len-of .result) (a .s) (at-len-of .len-of .ensures .0) in
+    let fits = with-bits w (a .s) (λ z. c .before .if2 .left (sym len ∙ z)) in
     agrees-same _ _ _ _ (target-rest d (a .n) (read (a .s)) out fits)
-    (c .add-target .ensures (a .nodes .now) bits known held [] d out fits (λ z. absurd (true-false (sym z))) w)
+    (c .add-target .ensures (a .nodes .now) bits known held [] d out fits record { is = refl; long = λ z. absurd (true-false (sym z)) } w)
 
 pub add-read-spec : {M : Type 1} → statement M
 add-read-spec =

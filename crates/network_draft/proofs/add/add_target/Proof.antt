@@ -10,7 +10,8 @@ use native.Mathlib.Omega.{arith}
 use mathlib.Core.List.{List}
 use mathlib.Core.Path.{refl, sym, ap, _∙_}
 use Rattle.network_draft.proofs.Representing.{agrees-refused, agrees-ok, represented-targets}
-use Rattle.network_draft.proofs.AddingTargets.{again-6, target-7, target-8, target-added, target-rest, segment-of, is-steering, not-steering, with-target}
+use Rattle.network_draft.proofs.AddingTargets.{again-6, target-7, target-8, target-added, target-rest, segment-of, with-target}
+use Rattle.network_draft.proofs.SteeringWords.{is-steering, not-steering}
 use borrow.Author.Needs.{needs}
 use Rattle.network_draft.proofs.add.add_target.Statement.{statement}
 use Rattle.network_draft.proofs.add.add_target.Tie as tie
@@ -48,7 +49,7 @@ returns-2 c =
     λ ns bits known held bs d out fits is-word w.
     let x = targetFor (a .write) (a .s) bs in
     let fresh = sym (ap (λ (ts : List Target). isTarget ts x) (w .targets-are)) ∙ sym (at-has-target .has-target .ensures ns bs) ∙ at-if1 .if1 .left in
-    let steers = is-steering _ _ _ _ _ _ _ _ w out (a .s) (at-start .pre .1) (c .before .if2 .taken) in
+    let steers = is-steering w out (a .s) (at-start .pre .1) (c .before .if2 .taken) in
     agrees-refused _ _ _ 7 (a .n) (target-7 d (a .n) x fresh (ap (isSteering (d .nodes)) (segment-of (a .write) (a .s) bs) ∙ steers)) (c .refuse2 .ensures)
 
 refuse-requires-3 : tie.Need-refuse-requires-3
@@ -64,8 +65,8 @@ returns-3 c =
     λ ns bits known held bs d out fits is-word w.
     let x = targetFor (a .write) (a .s) bs in
     let fresh = sym (ap (λ (ts : List Target). isTarget ts x) (w .targets-are)) ∙ sym (at-has-target .has-target .ensures ns bs) ∙ at-if1 .if1 .left in
-    let free = ap (isSteering (d .nodes)) (segment-of (a .write) (a .s) bs) ∙ not-steering _ _ _ _ _ _ _ _ w out (a .s) (at-start .pre .1) (at-if2 .if2 .left) in
-    let full : 4 ≤ length (d .targets) = omega (arith, represented-targets _ _ _ _ _ _ _ _ w, c .before .if3 .taken) in
+    let free = ap (isSteering (d .nodes)) (segment-of (a .write) (a .s) bs) ∙ not-steering w out (a .s) (at-start .pre .1) (at-if2 .if2 .left) in
+    let full : 4 ≤ length (d .targets) = omega (arith, represented-targets w, c .before .if3 .taken) in
     agrees-refused _ _ _ 8 (a .n) (target-8 d (a .n) x fresh free full) (c .refuse3 .ensures)
 
 narrow-requires : tie.Need-narrow-requires
@@ -106,12 +107,12 @@ returns-4 c =
     λ ns bits known held bs d out fits is-word w.
     let x = targetFor (a .write) (a .s) bs in
     let fresh = sym (ap (λ (ts : List Target). isTarget ts x) (w .targets-are)) ∙ sym (at-has-target .has-target .ensures ns bs) ∙ at-if1 .if1 .left in
-    let free = ap (isSteering (d .nodes)) (segment-of (a .write) (a .s) bs) ∙ not-steering _ _ _ _ _ _ _ _ w out (a .s) (at-start .pre .1) (at-if2 .if2 .left) in
-    let room : length (d .targets) < 4 = omega (arith, represented-targets _ _ _ _ _ _ _ _ w, at-if3 .if3 .left) in
+    let free = ap (isSteering (d .nodes)) (segment-of (a .write) (a .s) bs) ∙ not-steering w out (a .s) (at-start .pre .1) (at-if2 .if2 .left) in
+    let room : length (d .targets) < 4 = omega (arith, represented-targets w, at-if3 .if3 .left) in
     let is = target-added d (a .n) x fresh free room in
     agrees-ok _ _ _ (withTarget d x) is refl
     (rw (c .flag-of .ensures, c .before .narrow .ensures)
-    (with-target ns bits known (a .steering .now) held (a .t) d (a .n) w (a .s) (a .write) (a .bits) bs is-word (at-if3 .if3 .left) (target-rest d (a .n) x out fits ∙ is)))
+    (with-target w (a .s) (a .write) (a .bits) bs is-word (at-if3 .if3 .left) (target-rest d (a .n) x out fits ∙ is)))
 
 pub add-target-spec : {M : Type 1} → statement M
 add-target-spec =

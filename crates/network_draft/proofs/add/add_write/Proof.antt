@@ -1,12 +1,11 @@
 -- `network_draft::add::add_write` meets its contract: a `write` line is refused with 4 or 6 in this order as the model refuses it,
 -- and otherwise answers as `add_target` does.
 -- Assumes nothing.
-use Rattle.network_words.specs.Words.{wordBit}
 use Rattle.network_path.specs.Layout.{nodeAt}
-use Rattle.model.specs.Network.{tabulate, write, lenOf}
-use Prim.Native.Nat.{ℕ, _≤_}
+use Rattle.model.specs.Network.{write, lenOf}
+use Prim.Native.Nat.{_≤_}
 use lib.ListN.{length}
-use Rattle.network_words.proofs.FieldLaws.{bits-of-field}
+use Rattle.network_words.proofs.FieldLaws.{word-of-bits}
 use Rattle.network_line.specs.Line.{bitsIn}
 use Rattle.model.specs.Text.{bit}
 use Rattle.network_draft.proofs.BadAddresses.{node-in}
@@ -40,7 +39,7 @@ returns : tie.Need-returns
 returns c =
     let a = c .before .before .before .before .args in
     λ bits known held d form w.
-    let out = represented-out _ _ _ _ _ _ _ _ w ∙ not-true _ (c .before .if1 .taken) in
+    let out = represented-out w ∙ not-true _ (c .before .if1 .taken) in
     agrees-refused _ _ _ 4 (a .n) (target-4 d (a .n) (write (a .s) (bitsIn bit (a .f .now))) out) (c .refuse .ensures)
 
 len-of-requires : tie.Need-len-of-requires
@@ -56,9 +55,9 @@ returns-2 c =
     let a = at-if1 .before .before .before .args in
     let bs = bitsIn bit (a .f .now) in
     λ bits known held d form w.
-    let out = represented-out _ _ _ _ _ _ _ _ w ∙ not-false _ (at-if1 .if1 .left) in
-    let len = represented-len _ _ _ _ _ _ _ _ w (at-len-of .len-of .result) (a .s) (at-len-of .len-of .ensures .0) in
-    let unfit = unfit-none _ _ _ _ _ _ _ _ w (a .s) bs (len ∙ c .before .if2 .taken) in
+    let out = represented-out w ∙ not-false _ (at-if1 .if1 .left) in
+    let len = represented-len w (at-len-of .len-of .result) (a .s) (at-len-of .len-of .ensures .0) in
+    let unfit = unfit-none w (a .s) bs (len ∙ c .before .if2 .taken) in
     agrees-refused _ _ _ 6 (a .n) (target-6 d (a .n) (write (a .s) bs) out unfit) (c .refuse2 .ensures)
 
 refuse-requires-3 : tie.Need-refuse-requires-3
@@ -71,9 +70,9 @@ returns-3 c =
     let a = at-if1 .before .before .before .args in
     let bs = bitsIn bit (a .f .now) in
     λ bits known held d form w.
-    let out = represented-out _ _ _ _ _ _ _ _ w ∙ not-false _ (at-if1 .if1 .left) in
-    let len = represented-len _ _ _ _ _ _ _ _ w (at-len-of .len-of .result) (a .s) (at-len-of .len-of .ensures .0) in
-    let unfit = unfit-length _ _ _ _ _ _ _ _ w (a .s) bs (λ z. c .before .if3 .taken (sym (bits-in-length bit (a .f .now) form) ∙ z ∙ len)) in
+    let out = represented-out w ∙ not-false _ (at-if1 .if1 .left) in
+    let len = represented-len w (at-len-of .len-of .result) (a .s) (at-len-of .len-of .ensures .0) in
+    let unfit = unfit-length w (a .s) bs (λ z. c .before .if3 .taken (sym (bits-in-length bit (a .f .now) form) ∙ z ∙ len)) in
     agrees-refused _ _ _ 6 (a .n) (target-6 d (a .n) (write (a .s) bs) out unfit) (c .refuse3 .ensures)
 
 words-of-requires : tie.Need-words-of-requires
@@ -96,15 +95,16 @@ returns-4 c =
     let a = at-if1 .before .before .before .args in
     let bs = bitsIn bit (a .f .now) in
     λ bits known held d form w.
-    let out = represented-out _ _ _ _ _ _ _ _ w ∙ not-false _ (at-if1 .if1 .left) in
-    let len = represented-len _ _ _ _ _ _ _ _ w (at-len-of .len-of .result) (a .s) (at-len-of .len-of .ensures .0) in
+    let out = represented-out w ∙ not-false _ (at-if1 .if1 .left) in
+    let len = represented-len w (at-len-of .len-of .result) (a .s) (at-len-of .len-of .ensures .0) in
     let many = bits-in-length bit (a .f .now) form ∙ at-if3 .if3 .left ∙ sym len in
-    let fits = fit _ _ _ _ _ _ _ _ w (a .s) bs (λ z. at-if2 .if2 .left (sym len ∙ z)) many in
+    let fits = fit w (a .s) bs (λ z. at-if2 .if2 .left (sym len ∙ z)) many in
     agrees-same _ _ _ _ (target-rest d (a .n) (write (a .s) bs) out fits)
     (c .add-target .ensures (a .nodes .now) bits known held bs d out fits
-    (λ z. ap (λ (x : ℕ). tabulate (wordBit (c .before .words-of .result .bits)) 0 x) (sym (its-length at-if3))
-    ∙ ap (λ (x : ℕ). tabulate (wordBit x) 0 (length (a .f .now))) (c .before .words-of .ensures .0)
-    ∙ bits-of-field (a .f .now) bs (bits-are bit (a .f .now) form)) w)
+    record {
+      is = c .before .words-of .ensures .0 ∙ word-of-bits (a .f .now) bs (bits-are bit (a .f .now) form);
+      long = λ z. bits-in-length bit (a .f .now) form ∙ its-length at-if3;
+    } w)
 
 pub add-write-spec : {M : Type 1} → statement M
 add-write-spec =

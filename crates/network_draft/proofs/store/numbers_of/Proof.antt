@@ -3,7 +3,8 @@
 use Rattle.network_line.specs.declared.NodeData.the-variants.{Multiplexer}
 use Rattle.network_line.specs.Line.{SmallNode}
 use native.Mathlib.Omega.{arith}
-use Rattle.network_draft.proofs.Nodes.{segment-numbers, mux-numbers}
+use Rattle.network_draft.proofs.Nodes.{mux-numbers}
+use mathlib.Core.Path.{refl}
 use borrow.Author.Needs.{needs}
 use Rattle.network_draft.proofs.store.numbers_of.Statement.{statement}
 use Rattle.network_draft.proofs.store.numbers_of.Tie as tie
@@ -43,17 +44,17 @@ narrow-requires-6 c κs = small (c .before .before .before .before) .4
 narrow-requires-7 : tie.Need-narrow-requires-7
 narrow-requires-7 c κs = small (c .before .before .before .before .before) .5
 
-narrow-requires-8 : tie.Need-narrow-requires-8
-narrow-requires-8 c κs = small (c .before .before .before .before .before .before) .6
+input-if-requires : tie.Need-input-if-requires
+input-if-requires c κs = small (c .before .before .before .before .before .before) .6
 
-narrow-requires-9 : tie.Need-narrow-requires-9
-narrow-requires-9 c κs = small (c .before .before .before .before .before .before .before) .7
+input-if-requires-2 : tie.Need-input-if-requires-2
+input-if-requires-2 c κs = small (c .before .before .before .before .before .before .before) .7
 
 returns : tie.Need-returns
 returns c =
     let at-flag-of = c .before .before in
     let x = at-flag-of .before .before .x .given in
-    rw (x .1, at-flag-of .flag-of .ensures, c .before .narrow .ensures, c .narrow2 .ensures) (segment-numbers (x .0 .0) (x .0 .1 .0) (x .0 .1 .1 .0))
+    rw (x .1, at-flag-of .flag-of .ensures, c .before .narrow .ensures, c .narrow2 .ensures) refl
 
 returns-2 : tie.Need-returns-2
 returns-2 c =
@@ -72,8 +73,8 @@ returns-2 c =
       at-narrow5 .narrow5 .ensures,
       at-narrow6 .narrow6 .ensures,
       at-narrow7 .narrow7 .ensures,
-      c .before .narrow8 .ensures,
-      c .narrow9 .ensures,
+      c .before .input-if .ensures,
+      c .input-if2 .ensures,
     )
     (mux-numbers (x .1 .1 .0) (x .0) (x .1 .0) (x .1 .1 .1 .0) (x .1 .1 .1 .1 .0) (x .1 .1 .1 .1 .1 .0) (x .1 .1 .1 .1 .1 .1 .0) (p .2) (p .3))
 
@@ -91,7 +92,7 @@ numbers-of-spec =
     narrow-requires-5
     narrow-requires-6
     narrow-requires-7
-    narrow-requires-8
-    narrow-requires-9
+    input-if-requires
+    input-if-requires-2
     returns
     returns-2)

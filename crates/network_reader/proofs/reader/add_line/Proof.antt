@@ -34,7 +34,7 @@ enum-known-entry-2 c = search needs
 add-out-requires : tie.Need-add-out-requires
 add-out-requires c κs =
     let w = c .before .before .before .before .before .before .pre .1 in
-    (w .in-limits, represented-formed _ _ _ _ _ _ _ _ w)
+    (w .in-limits, represented-formed w)
 
 enum-known-entry-3 : tie.Need-enum-known-entry-3
 enum-known-entry-3 c = search needs
@@ -51,7 +51,7 @@ part-add-hold-end c = search needs
 add-hold-requires : tie.Need-add-hold-requires
 add-hold-requires c κs =
     let w = c .before .before .before .before .before .before .before .before .before .before .pre .1 in
-    (w .in-limits, represented-words _ _ _ _ _ _ _ _ w, w .sized .bit-words, w .sized .known-words, w .sized .held-flags)
+    (w .in-limits, represented-words w, w .sized .bit-words, w .sized .known-words, w .sized .held-flags)
 
 answer-requires-2 : tie.Need-answer-requires-2
 answer-requires-2 c κs = search needs
@@ -71,7 +71,7 @@ part-add-write-end c = search needs
 add-write-requires : tie.Need-add-write-requires
 add-write-requires c κs =
     let w = c .before .before .before .before .before .before .before .before .pre .1 in
-    (w .in-limits, represented-words _ _ _ _ _ _ _ _ w)
+    (w .in-limits, represented-words w)
 
 enum-known-entry-5 : tie.Need-enum-known-entry-5
 enum-known-entry-5 c = search needs

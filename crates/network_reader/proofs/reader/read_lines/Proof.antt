@@ -2,6 +2,7 @@
 -- the lines before, and the model reads from it as from the start (the law `Standing`).
 -- Assumes nothing.
 use Rattle.network_reader.proofs.ReadingLines.{Standing, standing-start, lines-refused, standing-unended, standing-end, standing-refused, standing-next}
+use Rattle.network_draft.specs.Represents.{arrays}
 use borrow.Author.Needs.{needs}
 use native.Mathlib.Omega.{arith}
 use lib.ListN.{length}
@@ -11,7 +12,7 @@ use Rattle.network_reader.proofs.reader.read_lines.Tie as tie
 
 abbrev Inv-loop : tie.InvT-loop
 Inv-loop text nodes₀ bits₀ known₀ steering₀ held₀ summary₀ at₀ n₀ nodes bits known steering held summary at n =
-    (length text ≤ 16384) × (at ≤ length text) × (n ≤ at + 1) × Standing text nodes bits known steering held summary at n
+    (length text ≤ 16384) × (at ≤ length text) × (n ≤ at + 1) × Standing text (arrays nodes bits known steering held) summary at n
 
 abbrev μ-loop : tie.MeasureT-loop
 μ-loop text nodes₀ bits₀ known₀ steering₀ held₀ summary₀ at₀ n₀ nodes bits known steering held summary at n = length text - at
@@ -22,7 +23,7 @@ empty-summary-requires c κs = search needs
 loop-holds : tie.Need-loop-holds Inv-loop μ-loop
 loop-holds c =
     let p = c .before .before .pre in
-    (p .0, omega arith, omega arith, standing-start _ _ _ _ _ _ _ (rw (c .empty-summary .ensures) (p .1)))
+    (p .0, omega arith, omega arith, standing-start _ (rw (c .empty-summary .ensures) (p .1)))
 
 -- the line ends within the text
 ended : (c : tie.Else1 Inv-loop μ-loop) → c .before .end-of .result < length (c .before .before .before .before .before .before .args .text .now)
@@ -37,8 +38,8 @@ left-requires c κs = search needs
 returns : tie.Need-returns Inv-loop μ-loop
 returns c =
     let at-end-of = c .before .before in
-    lines-refused _ _ _ _ _ _ _ 1 _
-    (standing-unended _ _ _ _ _ _ _ _ _ (at-end-of .before .before .loop .inv .3) _ (at-end-of .end-of .ensures) (search needs) (c .before .if1 .taken))
+    lines-refused _ _ _ 1 _
+    (standing-unended (at-end-of .before .before .loop .inv .3) _ (at-end-of .end-of .ensures) (search needs) (c .before .if1 .taken))
     (c .left .ensures .0)
 
 sub-add-line : tie.Need-sub-add-line Inv-loop μ-loop
@@ -66,8 +67,8 @@ returns-2 c =
     let at-add-line = c .before .before .before .before .before in
     let at-if1 = at-add-line .before .before .before .before .before .before .before in
     let l = at-if1 .before .before .before .loop in
-    lines-refused _ _ _ _ _ _ _ _ _
-    (standing-refused _ _ _ _ _ _ _ _ _ (l .inv .3) _ _ _ _ _ _ (at-add-line .add-line .result) (at-if1 .before .end-of .ensures) (ended at-if1)
+    lines-refused _ _ _ _ _
+    (standing-refused (l .inv .3) _ _ (at-add-line .add-line .result) (at-if1 .before .end-of .ensures) (ended at-if1)
     (at-add-line .add-line .ensures) _ _ (c .before .before .refusal .given .1)) (c .left2 .ensures .0)
 
 enum-told : tie.Need-enum-told Inv-loop μ-loop
@@ -90,7 +91,7 @@ loop-again c =
       l .inv .0,
       omega (arith, ended at-if1),
       search needs,
-      standing-next _ _ _ _ _ _ _ _ _ (l .inv .3) _ _ _ _ _ _ (at-add-line .add-line .result) (at-if1 .before .end-of .ensures) (ended at-if1)
+      standing-next (l .inv .3) _ _ (at-add-line .add-line .result) (at-if1 .before .end-of .ensures) (ended at-if1)
           (at-add-line .add-line .ensures) (c .enum-told .given .1),
     )
 
@@ -100,7 +101,7 @@ left-requires-3 c κs = search needs
 returns-3 : tie.Need-returns-3 Inv-loop μ-loop
 returns-3 c =
     let e = c .left3 .ensures in
-    standing-end _ _ _ _ _ _ _ _ _ (c .before .before .loop .inv .3) (search needs) _ (e .0) (e .1) (e .2)
+    standing-end (c .before .before .loop .inv .3) (search needs) _ (e .0) (e .1) (e .2)
 
 pub read-lines-spec : {M : Type 1} → statement M
 read-lines-spec =

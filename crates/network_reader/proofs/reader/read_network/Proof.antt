@@ -42,7 +42,7 @@ returns-2 c =
     let at-if1 = at-read-lines .before .before .before .before .before .before in
     let text = at-if1 .before .before .args .text .now in
     reading-refused text _ _ _ (c .rejected2 .ensures)
-    (ends-refused text (at-if1 .if1 .left) _ _ _ _ _ _ (at-finish .finish .ensures (readLines noLines 1 (parts lineEnd text)) (at-read-lines .read-lines .ensures)) _ _ (at-ending .ending .given .1))
+    (ends-refused text (at-if1 .if1 .left) _ _ (at-finish .finish .ensures (readLines noLines 1 (parts lineEnd text)) (at-read-lines .read-lines .ensures)) _ _ (at-ending .ending .given .1))
 
 returns-3 : tie.Need-returns-3
 returns-3 c =
@@ -51,7 +51,7 @@ returns-3 c =
     let at-read-lines = at-finish .before .before .before .before .before .before .before in
     let at-if1 = at-read-lines .before .before .before .before .before .before in
     let text = at-if1 .before .before .args .text .now in
-    ends-recorded text (at-if1 .if1 .left) _ _ _ _ _ _
+    ends-recorded text (at-if1 .if1 .left) _ _
     (at-finish .finish .ensures (readLines noLines 1 (parts lineEnd text)) (at-read-lines .read-lines .ensures)) _ _ (at-ending .ending2 .given .1)
 
 pub read-network-spec : {M : Type 1} → statement M

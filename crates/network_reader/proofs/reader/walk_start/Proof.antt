@@ -10,7 +10,7 @@ use Rattle.network_reader.proofs.reader.walk_start.Statement.{statement
 use Rattle.network_reader.proofs.reader.walk_start.Tie as tie
 
 find-path-requires : tie.Need-find-path-requires
-find-path-requires c κs = start-walkable _ _ _ _ _ _ _ (c .before .pre .1 .1) _ (length-replicate {A = ℕ} 128 0)
+find-path-requires c κs = start-walkable (c .before .pre .1 .1) _ (length-replicate {A = ℕ} 128 0)
 
 enum-known-m : tie.Need-enum-known-m
 enum-known-m c = search needs
@@ -19,7 +19,7 @@ enum-known-n : tie.Need-enum-known-n
 enum-known-n c = search needs
 
 steering-count-requires : tie.Need-steering-count-requires
-steering-count-requires c κs = start-short _ _ _ _ _ _ _ (c .before .before .before .before .before .pre .1 .1)
+steering-count-requires c κs = start-short (c .before .before .before .before .before .pre .1 .1)
 
 path-length-requires : tie.Need-path-length-requires
 path-length-requires c κs =
@@ -27,14 +27,14 @@ path-length-requires c κs =
     subst (WalkHeld _ _) (at-n .n .given .1) (at-n .before .before .find-path .ensures .holds)
 
 returns : tie.Need-returns
-returns c = λ d n b. start-stops _ _ _ _ _ d n b _ _ (c .before .before .before .find-path .ensures) _ (c .before .m .given .1)
+returns c = λ d n b. start-stops b _ _ (c .before .before .before .find-path .ensures) _ (c .before .m .given .1)
 
 returns-2 : tie.Need-returns-2
 returns-2 c =
     let at-steering-count = c .before .before in
     let at-n = at-steering-count .before .before in
     λ d n b.
-    start-recorded _ _ _ _ _ d n b _ _ (at-n .before .before .find-path .ensures) _ _ _
+    start-recorded b _ _ (at-n .before .before .find-path .ensures) _ _ _
     (at-n .n .given .1) (at-steering-count .steering-count .ensures) (c .path-length .ensures)
 
 pub walk-start-spec : {M : Type 1} → statement M

@@ -12,7 +12,7 @@ element-copy-out-if1 : tie.Need-element-copy-out-if1
 element-copy-out-if1 c = search needs
 
 returns : tie.Need-returns
-returns c = one-held _ _ _ _ _ (c .if1 .taken)
+returns c = one-held _ _ (c .if1 .taken)
 
 mul-bits : tie.Need-mul-bits
 mul-bits c = search needs
@@ -26,6 +26,9 @@ mul-start-marks c = search needs
 element-copy-out-start-marks : tie.Need-element-copy-out-start-marks
 element-copy-out-start-marks c = search needs
 
+segment-len-requires : tie.Need-segment-len-requires
+segment-len-requires c κs = search needs
+
 start-marks-requires : tie.Need-start-marks-requires
 start-marks-requires c κs = search needs
 
@@ -36,7 +39,7 @@ element-write-known : tie.Need-element-write-known
 element-write-known c = search needs
 
 returns-2 : tie.Need-returns-2
-returns-2 c = one-free _ _ _ _ _ _ (c .before .before .if1 .left) (search needs) (search needs) (c .start-marks .ensures)
+returns-2 c = one-free _ _ _ (c .before .before .before .if1 .left) (search needs) (search needs) _ (c .before .segment-len .ensures) (c .start-marks .ensures)
 
 pub fill-one-spec : {M : Type 1} → statement M
 fill-one-spec =
@@ -49,6 +52,7 @@ fill-one-spec =
     element-write-bits
     mul-start-marks
     element-copy-out-start-marks
+    segment-len-requires
     start-marks-requires
     mul-known
     element-write-known
