@@ -17,14 +17,13 @@ use Rattle.model.specs.Path.{ScanPath, bitValue}
 use Rattle.model.specs.Mark.{Got, Pass, sameTrit, holdsBits, withGot, readAt, writtenAt, targetsFrom}
 use Rattle.model.proofs.Lists.{tabulate-whole, tabulate-step, tabulate-none}
 use Rattle.network_words.specs.Words.{wordBit, tritAt, tritsOf}
-use Rattle.network_path.specs.Layout.{configOf}
 use Rattle.network_path.proofs.ConfigLaws.{config-row}
 use Rattle.network_draft.specs.declared.store.Summary.{Summary}
 use Rattle.network_draft.specs.Represents.{targetAt, targetsOf}
 use Rattle.marker.specs.declared.targets.Gots.{Gots}
 use Rattle.marker.specs.declared.targets.Verdict.the-variants.{Pass as Passed}
 use Rattle.marker.specs.Marks.{gotsOf, ZerosBehind, noGots, refusedMark}
-use Rattle.marker_operations.specs.Operations.{accessOf, Reached}
+use Rattle.marker_operations.specs.Operations.{accessOf, Reached, Marking, configAt}
 use Rattle.marker.specs.Targets.{Pushed, segmentOf, Judgeable, lenAt, isHeld, Judges}
 use Rattle.marker.proofs.Rows.{blank-none}
 
@@ -87,19 +86,19 @@ abbrev asked : List ℕ → Summary → ℕ → List Bool
 asked ns t i = tabulate (wordBit (getD (t .«target_bits») i 0)) 0 (lenAt ns t i)
 
 -- at target i: the rows are those of the targets before it, and the targets from it on decide
-pub record Judging (ns : List ℕ) (t : Summary) (bits known first places : List ℕ) (lines clocks : ℕ) (gots : Gots) (i : ℕ) : Type 0 where
+pub record Judging (ns : List ℕ) (t : Summary) (m : Marking) (lines clocks : ℕ) (gots : Gots) (i : ℕ) : Type 0 where
   pub within : i ≤ t .«target_count»
   pub rows : gots .count ≤ i
   pub blank : ZerosBehind gots
-  pub rest : (ps : List ScanPath) → Reached t first places ps
-      → andThen (targetsFrom 1 ps (configOf ns bits known (t .count)) (targetsOf ns t)) (passedWith lines clocks)
-      ≡ andThen (targetsFrom (suc i) ps (configOf ns bits known (t .count)) (tabulate (targetAt ns t) i (t .«target_count» - i))) (λ gs. passedWith lines clocks (gotsOf gots ++ gs))
+  pub rest : (ps : List ScanPath) → Reached t (m .firsts) ps
+      → andThen (targetsFrom 1 ps (configAt ns t m) (targetsOf ns t)) (passedWith lines clocks)
+      ≡ andThen (targetsFrom (suc i) ps (configAt ns t m) (tabulate (targetAt ns t) i (t .«target_count» - i))) (λ gs. passedWith lines clocks (gotsOf gots ++ gs))
 
-module _ (ns : List ℕ) (t : Summary) (bits known first places : List ℕ) (lines clocks : ℕ) where
+module _ (ns : List ℕ) (t : Summary) (m : Marking) (lines clocks : ℕ) where
   abbrev conf : Config
-  conf = configOf ns bits known (t .count)
+  conf = configAt ns t m
 
-  pub judging-first : Judging ns t bits known first places lines clocks noGots 0
+  pub judging-first : Judging ns t m lines clocks noGots 0
   judging-first = record {
     within = omega arith;
     rows = omega arith;
@@ -107,36 +106,39 @@ module _ (ns : List ℕ) (t : Summary) (bits known first places : List ℕ) (lin
     rest = λ ps reached. ap (λ (ts : List Target). andThen (targetsFrom 1 ps conf ts) (passedWith lines clocks)) (sym (tabulate-whole (targetAt ns t) (t .«target_count»)));
   }
 
-  module _ (gots : Gots) (i : ℕ) (w : Judging ns t bits known first places lines clocks gots i) where
+  module _ (gots : Gots) (i : ℕ) (w : Judging ns t m lines clocks gots i) where
     abbrev onward : List Got → Result Pass
     onward gs = passedWith lines clocks (gotsOf gots ++ gs)
 
-    pub judged-last : t .«target_count» ≤ i → Judges ns t bits known first places lines clocks record { verdict = Passed lines clocks; gots = gots }
+    pub judged-last : t .«target_count» ≤ i → Judges ns t m lines clocks record { verdict = Passed lines clocks; gots = gots }
     unfolding targetsFrom
     judged-last l ps reached =
         sym (w .rest ps reached ∙ ap (λ (ts : List Target). andThen (targetsFrom (suc i) ps conf ts) onward) (tabulate-none (targetAt ns t) i (t .«target_count») l)
         ∙ ap (passedWith lines clocks) (append-nil (gotsOf gots)))
 
-    module _ (j : Judgeable ns t bits known) (l : i < t .«target_count») where
+    module _ (j : Judgeable ns t (m .bits) (m .known)) (l : i < t .«target_count») where
       abbrev word : ℕ
       word = getD (t .«target_write») i 0
 
       abbrev operation : ℕ
-      operation = getD first i 0
+      operation = getD (m .firsts .first) i 0
+
+      abbrev position : ℕ
+      position = getD (m .firsts .places) i 0
 
       abbrev later : List ScanPath → Result (List Got)
       later ps = targetsFrom (suc (i + 1)) ps conf (tabulate (targetAt ns t) (i + 1) (t .«target_count» - (i + 1)))
 
       abbrev row : Got
-      row = record { targetNumber = i + 1; operation = operation; atPlace = getD places i 0 }
+      row = record { targetNumber = i + 1; operation = operation; atPlace = position }
 
       -- the answer for target i, by its word, its access and its bits
       abbrev answer : Bool → Option (ℕ × ℕ) → Bool → Result (List Got) → Result Pass
       answer true a h rest = andThen (writtenAt (i + 1) a h rest) onward
       answer false a h rest = andThen (readAt (i + 1) a rest) onward
 
-      by-target : (ps : List ScanPath) → Reached t first places ps
-          → andThen (targetsFrom 1 ps conf (targetsOf ns t)) (passedWith lines clocks) ≡ answer (eqb word 1) (accessOf operation (getD places i 0)) (isHeld ns t bits known i) (later ps)
+      by-target : (ps : List ScanPath) → Reached t (m .firsts) ps
+          → andThen (targetsFrom 1 ps conf (targetsOf ns t)) (passedWith lines clocks) ≡ answer (eqb word 1) (accessOf operation position) (isHeld ns t (m .bits) (m .known) i) (later ps)
       unfolding targetsFrom
       by-target ps reached =
           w .rest ps reached ∙ ap (λ (ts : List Target). andThen (targetsFrom (suc i) ps conf ts) onward) (tabulate-step (targetAt ns t) i (t .«target_count») l)
@@ -144,22 +146,22 @@ module _ (ns : List ℕ) (t : Summary) (bits known first places : List ℕ) (lin
         where
           go : (b : Bool)
               → andThen (targetsFrom (suc i) ps conf (cond b (write (segmentOf t i) (asked ns t i)) (read (segmentOf t i)) ∷ tabulate (targetAt ns t) (i + 1) (t .«target_count» - (i + 1)))) onward
-              ≡ answer b (accessOf operation (getD places i 0)) (isHeld ns t bits known i) (later ps)
-          go true = rw (add-one i, reached i l, config-row ns bits known (t .count) (segmentOf t i) (j .least i l) (j .most i l))
+              ≡ answer b (accessOf operation position) (isHeld ns t (m .bits) (m .known) i) (later ps)
+          go true = rw (add-one i, reached i l, config-row ns (m .bits) (m .known) (t .count) (segmentOf t i) (j .least i l) (j .most i l))
           go false = rw (add-one i, reached i l)
 
       -- the refusals
 
-      pub judged-unreached : operation ≡ 0 → Judges ns t bits known first places lines clocks (refusedMark 17 (i + 1))
+      pub judged-unreached : operation ≡ 0 → Judges ns t m lines clocks (refusedMark 17 (i + 1))
       judged-unreached e ps reached =
-          sym (by-target ps reached ∙ ap (λ (k : ℕ). answer (eqb word 1) (accessOf k (getD places i 0)) (isHeld ns t bits known i) (later ps)) e ∙ go (eqb word 1))
+          sym (by-target ps reached ∙ ap (λ (k : ℕ). answer (eqb word 1) (accessOf k position) (isHeld ns t (m .bits) (m .known) i) (later ps)) e ∙ go (eqb word 1))
         where
-          go : (b : Bool) → answer b none (isHeld ns t bits known i) (later ps) ≡ refused 17 (i + 1)
+          go : (b : Bool) → answer b none (isHeld ns t (m .bits) (m .known) i) (later ps) ≡ refused 17 (i + 1)
           go true = refl
           go false = refl
 
-      pub judged-not-held : (h : Bool) → word ≡ 1 → h ≡ isHeld ns t bits known i → not h ≡ true → Judges ns t bits known first places lines clocks (refusedMark 17 (i + 1))
-      judged-not-held h e f n ps reached = sym (by-target ps reached ∙ rw (eq-eqb word 1 e, ← f, not-true h n) (go (accessOf operation (getD places i 0))))
+      pub judged-not-held : (h : Bool) → word ≡ 1 → h ≡ isHeld ns t (m .bits) (m .known) i → not h ≡ true → Judges ns t m lines clocks (refusedMark 17 (i + 1))
+      judged-not-held h e f n ps reached = sym (by-target ps reached ∙ rw (eq-eqb word 1 e, ← f, not-true h n) (go (accessOf operation position)))
         where
           go : (a : Option (ℕ × ℕ)) → answer true a false (later ps) ≡ refused 17 (i + 1)
           go none = refl
@@ -168,20 +170,20 @@ module _ (ns : List ℕ) (t : Summary) (bits known first places : List ℕ) (lin
       -- one target more
 
       module _ (ne : operation ≡ 0 → ⊥) where
-        pub judging-held : (h : Bool) → word ≡ 1 → h ≡ isHeld ns t bits known i → not h ≡ false → Judging ns t bits known first places lines clocks gots (i + 1)
+        pub judging-held : (h : Bool) → word ≡ 1 → h ≡ isHeld ns t (m .bits) (m .known) i → not h ≡ false → Judging ns t m lines clocks gots (i + 1)
         judging-held h e f n = record {
           within = omega arith;
           rows = omega (arith, w .rows);
           blank = w .blank;
-          rest = λ ps reached. by-target ps reached ∙ rw (eq-eqb word 1 e, ← f, not-false h n, accessed operation (getD places i 0) ne);
+          rest = λ ps reached. by-target ps reached ∙ rw (eq-eqb word 1 e, ← f, not-false h n, accessed operation position ne);
         }
 
-        pub judging-read : (new : Gots) → (word ≡ 1 → ⊥) → Pushed gots (i + 1) operation (getD places i 0) new → Judging ns t bits known first places lines clocks new (i + 1)
+        pub judging-read : (new : Gots) → (word ≡ 1 → ⊥) → Pushed gots (i + 1) operation position new → Judging ns t m lines clocks new (i + 1)
         judging-read new e f = record {
           within = omega arith;
           rows = omega (arith, w .rows, f .counts);
           blank = f .blank;
-          rest = λ ps reached. by-target ps reached ∙ rw (ne-eqb word 1 e, accessed operation (getD places i 0) ne) (go (later ps));
+          rest = λ ps reached. by-target ps reached ∙ rw (ne-eqb word 1 e, accessed operation position ne) (go (later ps));
         }
           where
             go : (r : Result (List Got)) → andThen (andThen r (withGot row)) onward ≡ andThen r (λ gs. passedWith lines clocks (gotsOf new ++ gs))

@@ -1,7 +1,7 @@
 -- Laws of the whole mark: what each ending says of the model's mark of the texts, and of a plan on an accepted network.
 -- Assumes nothing.
 use mathlib.Core.Path.{_≡_, refl, sym, ap, _∙_, subst}
-use mathlib.Core.List.{List, []}
+use mathlib.Core.List.{List}
 use Prim.Native.Nat.{ℕ}
 use native.Mathlib.Omega.{arith}
 use lib.ListN.{length, replicate}
@@ -29,7 +29,7 @@ use Rattle.marker_operations.specs.declared.Ran.the-variants.{Done, Refused}
 use Rattle.marker.specs.declared.targets.Mark.{Mark}
 use Rattle.marker.specs.Marks.{markOf, refusedMark, RowsFor, Markable, planMark}
 use Rattle.marker.specs.Targets.{Judgeable, Judges}
-use Rattle.marker_operations.specs.Operations.{Slots, configAt, RanAs, HoldsStart, Startable, fromStart, Runs, Reached}
+use Rattle.marker_operations.specs.Operations.{Reached, Marking, marking, configAt, RanAs, HoldsStart, Startable, fromStart, Runs}
 use Rattle.network_reader.proofs.Records.{Recorded, reading-rejected, reading-recorded, target-segment}
 use Rattle.marker_operations.proofs.Noting.{reached-none}
 
@@ -82,18 +82,29 @@ module _ (r : Network) (p : Bytes) (lines : ℕ) (m : Markable r p lines) where
   good : GoodText p lines
   good = form-good p (Good lines) lines (sym (m .form)) refl
 
-  starts : HoldsStart net (r .nodes) (r .summary) (r .bits) (r .known)
-  starts = record { stored = c .stored; start = refl; in-limits = c .filled .in-limits; sized = record { words = c .filled .bits-size; marks = c .filled .known-size } }
+  -- what the run starts from
+  abbrev before : Marking
+  before = marking (r .bits) (r .known) (replicate 4 0) (replicate 4 0)
+
+  starts : HoldsStart net (r .nodes) (r .summary) before
+  starts = record {
+    stored = c .stored;
+    start = refl;
+    in-limits = c .filled .in-limits;
+    sized = record { words = c .filled .bits-size; marks = c .filled .known-size };
+    slots = record { first-size = refl; places-size = refl };
+    reached = reached-none (r .summary) (before .firsts) (λ i lt. zero-at 4 i);
+  }
 
   -- what the run asks
-  pub runnable : HasForm p × (Startable (r .nodes) (r .summary) (r .bits) (r .known) × (Slots (replicate 4 0) (replicate 4 0) × Reached (r .summary) (replicate 4 0) (replicate 4 0) []))
-  runnable = ((good .plan, good .reads), ((net, starts), (record { first-size = refl; places-size = refl }, reached-none (r .summary) (replicate 4 0) (replicate 4 0) (λ i lt. zero-at 4 i))))
+  pub runnable : HasForm p × Startable (r .nodes) (r .summary) before
+  runnable = ((good .plan, good .reads), (net, starts))
 
-  module _ (ran : Ran) (bits known first places : List ℕ) (runs : Runs (r .nodes) (r .summary) p (r .bits) (r .known) ran bits known first places) where
+  module _ (ran : Ran) (after : Marking) (runs : Runs (r .nodes) (r .summary) p before ran after) where
     abbrev whole : Result Run
     whole = fromStart net (good .plan) (walk net (net .start))
 
-    ran-as : RanAs (r .nodes) (r .summary) ran bits known first places whole
+    ran-as : RanAs (r .nodes) (r .summary) ran after whole
     ran-as = runs net (good .plan) (good .reads) starts
 
     marks-by : planMark r p ≡ andThen whole (thenTargets net (good .plan))
@@ -102,26 +113,26 @@ module _ (r : Network) (p : Bytes) (lines : ℕ) (m : Markable r p lines) where
     pub run-refused : (number place : ℕ) → ran ≡ Refused number place → refused number place ≡ planMark r p
     run-refused number place e = sym (marks-by ∙ ap (λ (a : Result Run). andThen a (thenTargets net (good .plan))) (go whole ran-as))
       where
-        go : (a : Result Run) → RanAs (r .nodes) (r .summary) ran bits known first places a → a ≡ refused number place
+        go : (a : Result Run) → RanAs (r .nodes) (r .summary) ran after a → a ≡ refused number place
         go (ok run) f = absurd (let z : Done ≡ Refused number place = sym (f .0) ∙ e in let y : _≡_ {A = ℕ} 0 1 = cc in omega arith)
         go (refused a b) f = let z : Refused a b ≡ Refused number place = sym f ∙ e in let x : a ≡ number = cc in let y : b ≡ place = cc in rw (x, y)
 
     record Finished : Type 0 where
       run : Run
       is : whole ≡ ok run
-      last : configAt (r .nodes) (r .summary) bits known ≡ run .last
-      reached : Reached (r .summary) first places (run .paths)
-      sized : ConfigSized bits known
+      last : configAt (r .nodes) (r .summary) after ≡ run .last
+      reached : Reached (r .summary) (after .firsts) (run .paths)
+      sized : ConfigSized (after .bits) (after .known)
 
     finished : ran ≡ Done → Finished
     finished e = go whole refl ran-as
       where
-        go : (a : Result Run) → whole ≡ a → RanAs (r .nodes) (r .summary) ran bits known first places a → Finished
+        go : (a : Result Run) → whole ≡ a → RanAs (r .nodes) (r .summary) ran after a → Finished
         go (ok run) q f = record { run = run; is = q; last = f .1; reached = f .2; sized = f .3 }
         go (refused a b) q f = absurd (let z : Done ≡ Refused a b = sym e ∙ f in let y : _≡_ {A = ℕ} 0 1 = cc in omega arith)
 
     -- what the judgement asks
-    pub judgeable : ran ≡ Done → Judgeable (r .nodes) (r .summary) bits known
+    pub judgeable : ran ≡ Done → Judgeable (r .nodes) (r .summary) (after .bits) (after .known)
     judgeable e = record {
       in-limits = c .filled .in-limits;
       sized = finished e .sized;
@@ -133,12 +144,12 @@ module _ (r : Network) (p : Bytes) (lines : ℕ) (m : Markable r p lines) where
     abbrev ending : List ScanPath → Config → ℕ → ℕ → Result Pass
     ending ps x k l = andThen (targetsFrom 1 ps x (net .targets)) (λ gs. ok record { operations = k; clocks = l; gots = gs })
 
-    pub judged : (a : Mark) → ran ≡ Done → Judges (r .nodes) (r .summary) bits known first places lines (length p) a → markOf a ≡ planMark r p
+    pub judged : (a : Mark) → ran ≡ Done → Judges (r .nodes) (r .summary) after lines (length p) a → markOf a ≡ planMark r p
     judged a e j =
         let f = finished e in
         let many : length p ≡ length (planClocks (good .plan)) = ap length (good .text) ∙ clocks-bytes (good .plan) in
         j (f .run .paths) (f .reached)
-        ∙ ap (λ (k : ℕ). ending (f .run .paths) (configAt (r .nodes) (r .summary) bits known) k (length p)) (sym (good .count))
-        ∙ ap (λ (k : ℕ). ending (f .run .paths) (configAt (r .nodes) (r .summary) bits known) (length (good .plan)) k) many
+        ∙ ap (λ (k : ℕ). ending (f .run .paths) (configAt (r .nodes) (r .summary) after) k (length p)) (sym (good .count))
+        ∙ ap (λ (k : ℕ). ending (f .run .paths) (configAt (r .nodes) (r .summary) after) (length (good .plan)) k) many
         ∙ ap (λ (x : Config). ending (f .run .paths) x (length (good .plan)) (length (planClocks (good .plan)))) (f .last)
         ∙ sym (marks-by ∙ ap (λ (a : Result Run). andThen a (thenTargets net (good .plan))) (f .is))

@@ -10,13 +10,13 @@ use Rattle.model.specs.Network.{lenOf, tabulate}
 use Rattle.model.specs.Path.{ScanPath}
 use Rattle.model.specs.Mark.{holdsBits, targetsFrom}
 use Rattle.network_words.specs.Words.{wordWidth, wordBit, tritsOf}
-use Rattle.network_path.specs.Layout.{nodeAt, configOf}
+use Rattle.network_path.specs.Layout.{nodeAt}
 use Rattle.network_path.specs.Answers.{ConfigSized}
 use Rattle.network_draft.specs.declared.store.Summary.{Summary}
 use Rattle.network_draft.specs.Represents.{InLimits, targetsOf}
 use Rattle.marker.specs.declared.targets.Gots.{Gots}
 use Rattle.marker.specs.declared.targets.Mark.{Mark}
-use Rattle.marker_operations.specs.Operations.{Reached}
+use Rattle.marker_operations.specs.Operations.{Reached, Marking, configAt}
 use Rattle.marker.specs.Marks.{gotsOf, ZerosBehind, markOf}
 
 -- ---- rows
@@ -48,8 +48,8 @@ abbrev pub isHeld : List ℕ → Summary → List ℕ → List ℕ → ℕ → B
 isHeld ns t bits known i =
     holdsBits (tritsOf (lenAt ns t i) (getD bits (segmentOf t i) 0) (getD known (segmentOf t i) 0)) (tabulate (wordBit (getD (t .«target_bits») i 0)) 0 (lenAt ns t i))
 
--- what it answers: the verdict on the targets after operations with any paths that first and places tell of
-abbrev pub Judges : List ℕ → Summary → List ℕ → List ℕ → List ℕ → List ℕ → ℕ → ℕ → Mark → Type 0
-Judges ns t bits known first places lines clocks r =
-    (ps : List ScanPath) → Reached t first places ps
-    → markOf r ≡ andThen (targetsFrom 1 ps (configOf ns bits known (t .count)) (targetsOf ns t)) (λ gs. ok record { operations = lines; clocks = clocks; gots = gs })
+-- what it answers: the verdict on the targets after operations with any paths that its first operations tell of
+abbrev pub Judges : List ℕ → Summary → Marking → ℕ → ℕ → Mark → Type 0
+Judges ns t m lines clocks r =
+    (ps : List ScanPath) → Reached t (m .firsts) ps
+    → markOf r ≡ andThen (targetsFrom 1 ps (configAt ns t m) (targetsOf ns t)) (λ gs. ok record { operations = lines; clocks = clocks; gots = gs })

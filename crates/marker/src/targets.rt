@@ -12,6 +12,7 @@ ghost use Prim.Native.Nat.{_≤_, _<_};
 ghost use Rattle.model.specs.Mark.{holdsBits};
 ghost use Rattle.model.specs.Network.{tabulate};
 ghost use Rattle.network_words.specs.Words.{wordWidth, wordBit, tritsOf};
+ghost use Rattle.marker_operations.specs.Operations.{marking};
 ghost use Rattle.marker.specs.Marks.{noGots, ZerosBehind, refusedMark, RowsFor};
 ghost use Rattle.marker.specs.Targets.{Pushed, Judgeable, isHeld, Judges};
 
@@ -113,7 +114,7 @@ pub fn judge<'a>(
     clocks: usize,
 ) -> Mark
     requires { ⌜ Judgeable (now nodes) t (now bits) (now known) ⌝ }
-    ensures { λ r. ⌜ Judges (now (nodes .entry)) t (now (bits .entry)) (now (known .entry)) (now (first .entry)) (now (places .entry)) lines clocks r ⌝ }
+    ensures { λ r. ⌜ Judges (now (nodes .entry)) t (marking (now (bits .entry)) (now (known .entry)) (now (first .entry)) (now (places .entry))) lines clocks r ⌝ }
     ensures { λ r. ⌜ RowsFor (r .verdict) (r .gots) ⌝ }
 {
     let mut gots = no_gots();

@@ -5,7 +5,7 @@ use mathlib.Core.Bool.{Bool, true, false}
 use mathlib.Core.List.{List, [], _∷_, _++_, map, append-nil, append-assoc}
 use Prim.Native.Nat.{ℕ, suc, _+_, _≤_, _<_}
 use native.Mathlib.Omega.{arith}
-use lib.ListN.{length, take, drop, length-append, length-map}
+use lib.ListN.{length, drop, length-append, length-map}
 use borrow.Author.Tests.{eq-eqb, ne-eqb}
 use Rattle.model.specs.Result.{Result, ok, refused, andThen}
 use Rattle.model.specs.Text.{Bytes}
@@ -17,7 +17,6 @@ use Rattle.model.specs.Tap.{bitByte}
 use Rattle.model.specs.Mark.{Run, along, settled, runFrom}
 use Rattle.model.proofs.PlanTexts.{text-of}
 use Rattle.network_words.specs.Words.{byteBit}
-use Rattle.network_path.specs.Layout.{scanPath}
 use Rattle.network_path.specs.Answers.{FindsPath, Loads}
 use Rattle.network_path.specs.declared.walk.Walked.{Walked}
 use Rattle.network_path.specs.declared.walk.Walked.the-variants.{Path, Stop as Stopped}
@@ -28,34 +27,36 @@ use Rattle.network_draft.specs.declared.store.Summary.{Summary}
 use Rattle.marker_operations.specs.declared.Operated.{Operated}
 use Rattle.marker_operations.specs.declared.Operated.the-variants.{Next, WrongLength, NotValid}
 use Rattle.marker_operations.specs.declared.Ran.the-variants.{Done, Refused}
-use Rattle.marker_operations.specs.Operations.{Slots, Noted, configAt, OnPath, Loaded, OperatedAs, Operates, RanAs, HoldsStart, fromStart, Reached}
+use Rattle.marker_operations.specs.Operations.{Reached, Noted, configAt, State, pathAt, OnPath, Loaded, OperatedAs, Operates, RanAs, HoldsStart, fromStart}
 use Rattle.marker_operations.proofs.Noting.{reached-more}
 
 -- ---- one operation
 
-module _ (ns : List ℕ) (t : Summary) (scan : Bytes) (k : ℕ) (way : List ℕ) (n : ℕ) (bits known first places : List ℕ) where
+module _ (ns : List ℕ) (t : Summary) (scan : Bytes) (k n : ℕ) (old : State) where
   abbrev p : ScanPath
-  p = scanPath ns (take n way)
+  p = pathAt ns n old
 
-  module _ (len : ℕ) (way′ bits′ known′ first′ places′ : List ℕ) (r : Walked) (e : len ≡ pathLength p) (l : length scan ≡ len)
-      (noted : Noted p (t .«target_segment») (t .«target_count») k first places first′ places′) (loads : Loads ns way n scan bits known bits′ known′)
-      (found : FindsPath ns bits′ known′ (t .out) r way′) where
-    op-loaded : Loaded ns t p scan k bits known first places bits′ known′ first′ places′
+  module _ (len : ℕ) (new : State) (r : Walked) (e : len ≡ pathLength p) (l : length scan ≡ len)
+      (noted : Noted p (t .«target_segment») (t .«target_count») k (old .marking .firsts) (new .marking .firsts))
+      (loads : Loads ns (old .way) n scan (old .marking .bits) (old .marking .known) (new .marking .bits) (new .marking .known))
+      (found : FindsPath ns (new .marking .bits) (new .marking .known) (t .out) r (new .way)) where
+    op-loaded : Loaded ns t p scan k (old .marking) (new .marking)
     op-loaded = record { as-long = l ∙ e; after = loads .loads (t .count); noted = noted }
 
-    pub op-next : (m : ℕ) → r ≡ Path m → Operates ns t scan k way n bits known first places (Next m) way′ bits′ known′ first′ places′
+    pub op-next : (m : ℕ) → r ≡ Path m → Operates ns t scan k n old (Next m) new
     op-next m q net o = (
       op-loaded,
       record {
         stored = o .stored;
-        found = found-path net ns (t .count) (t .out) (o .stored) bits′ known′ r way′ found m q;
+        found = found-path net ns (t .count) (t .out) (o .stored) (new .marking .bits) (new .marking .known) r (new .way) found m q;
         in-limits = o .in-limits;
         sized = loads .sized;
+        slots = noted .slots;
       },
     )
 
-    pub op-stop : (m : ℕ) → r ≡ Stopped m → Operates ns t scan k way n bits known first places NotValid way′ bits′ known′ first′ places′
-    op-stop m q net o = (op-loaded, (m, found-stop net ns (t .count) (t .out) (o .stored) bits′ known′ r way′ found m q))
+    pub op-stop : (m : ℕ) → r ≡ Stopped m → Operates ns t scan k n old NotValid new
+    op-stop m q net o = (op-loaded, (m, found-stop net ns (t .count) (t .out) (o .stored) (new .marking .bits) (new .marking .known) r (new .way) found m q))
 
 -- ---- the model's run, one operation on
 
@@ -83,20 +84,20 @@ module _ (net : Network) (k : ℕ) (p : ScanPath) (c : Config) (bs : List Bool) 
 
 -- ---- the loop: the run so far, and what is left of the text
 
-pub record Going (net : Network) (plan : Plan) (ns : List ℕ) (t : Summary) (text : Bytes) (whole : Result Run) (at k : ℕ) (way : List ℕ) (n : ℕ) (bits known first places : List ℕ) : Type 0 where
+pub record Going (net : Network) (plan : Plan) (ns : List ℕ) (t : Summary) (text : Bytes) (whole : Result Run) (at k n : ℕ) (s : State) : Type 0 where
   pub ps : List ScanPath
   pub rest : Plan
   pub left : drop at text ≡ writePlan rest
   pub number : k ≡ suc (length ps)
   pub few : k ≤ suc at
-  pub on : OnPath net ns t way n bits known
-  pub runs : whole ≡ andThen (runFrom net k (scanPath ns (take n way)) (configAt ns t bits known) rest) (behind ps)
-  pub reached : Reached t first places ps
+  pub on : OnPath net ns t n s
+  pub runs : whole ≡ andThen (runFrom net k (pathAt ns n s) (configAt ns t (s .marking)) rest) (behind ps)
+  pub reached : Reached t (s .marking .firsts) ps
 
 module _ (net : Network) (plan : Plan) (ns : List ℕ) (t : Summary) (text : Bytes) where
-  pub going-start : (way : List ℕ) (n : ℕ) (bits known first places : List ℕ) → readPlan text ≡ ok plan → OnPath net ns t way n bits known → Reached t first places []
-      → Going net plan ns t text (runFrom net 1 (scanPath ns (take n way)) (configAt ns t bits known) plan) 0 1 way n bits known first places
-  going-start way n bits known first places e o r = record {
+  pub going-start : (n : ℕ) (s : State) → readPlan text ≡ ok plan → OnPath net ns t n s → Reached t (s .marking .firsts) []
+      → Going net plan ns t text (runFrom net 1 (pathAt ns n s) (configAt ns t (s .marking)) plan) 0 1 n s
+  going-start n s e o r = record {
     ps = [];
     rest = plan;
     left = text-of text plan e .text;
@@ -107,20 +108,19 @@ module _ (net : Network) (plan : Plan) (ns : List ℕ) (t : Summary) (text : Byt
     reached = r;
   }
 
-  module _ (whole : Result Run) (at k : ℕ) (way : List ℕ) (n : ℕ) (bits known first places : List ℕ)
-      (g : Going net plan ns t text whole at k way n bits known first places) where
+  module _ (whole : Result Run) (at k n : ℕ) (s : State) (g : Going net plan ns t text whole at k n s) where
     abbrev c : Config
-    c = configAt ns t bits known
+    c = configAt ns t (s .marking)
 
     abbrev route : ScanPath
-    route = scanPath ns (take n way)
+    route = pathAt ns n s
 
-    pub going-end : length text ≤ at → RanAs ns t Done bits known first places whole
+    pub going-end : length text ≤ at → RanAs ns t Done (s .marking) whole
     unfolding runFrom
     going-end h =
         let z = line-none text at (g .rest) (g .left) h in
         let w : whole ≡ ok record { paths = g .ps; last = c } = g .runs ∙ rw z (ap (λ (l : List ScanPath). ok record { paths = l; last = c }) (append-nil (g .ps))) in
-        subst (RanAs ns t Done bits known first places) (sym w) (refl, refl, g .reached, g .on .sized)
+        subst (RanAs ns t Done (s .marking)) (sym w) (refl, refl, g .reached, g .on .sized)
 
     -- a line more
     module _ (more : at < length text) where
@@ -170,25 +170,22 @@ module _ (net : Network) (plan : Plan) (ns : List ℕ) (t : Summary) (text : Byt
             (run-on net k route c (line .bs) (line .others) w (sym (line .long) ∙ l) (ap (λ (b : List Bool). walk net (csu route b c)) (sym (line .bits-are)) ∙ e)))
 
         -- what the operation answers
-        module _ (r : Operated) (way′ bits′ known′ first′ places′ : List ℕ) (o : Operates ns t scan k way n bits known first places r way′ bits′ known′ first′ places′) where
-          told : (x : Operated) → r ≡ x → OperatedAs net ns t route scan k bits known first places x way′ bits′ known′ first′ places′
-          told x e = subst (λ (y : Operated). OperatedAs net ns t route scan k bits known first places y way′ bits′ known′ first′ places′) e (o net (g .on))
+        module _ (r : Operated) (new : State) (o : Operates ns t scan k n s r new) where
+          told : (x : Operated) → r ≡ x → OperatedAs net ns t route scan k (s .marking) x new
+          told x e = subst (λ (y : Operated). OperatedAs net ns t route scan k (s .marking) y new) e (o net (g .on))
 
-          pub going-wrong-length : r ≡ WrongLength → RanAs ns t (Refused 15 k) bits′ known′ first′ places′ whole
+          pub going-wrong-length : r ≡ WrongLength → RanAs ns t (Refused 15 k) (new .marking) whole
           going-wrong-length e =
               let w : whole ≡ refused 15 k = line .whole-is ∙ rw (run-wrong-length net k route c (line .bs) (line .others) (λ l. told WrongLength e (line .long ∙ l))) in
-              subst (RanAs ns t (Refused 15 k) bits′ known′ first′ places′) (sym w) refl
+              subst (RanAs ns t (Refused 15 k) (new .marking)) (sym w) refl
 
-          pub going-stop : r ≡ NotValid → RanAs ns t (Refused 16 k) bits′ known′ first′ places′ whole
+          pub going-stop : r ≡ NotValid → RanAs ns t (Refused 16 k) (new .marking) whole
           going-stop e =
               let a = told NotValid e in
               let w : whole ≡ refused 16 k = on-by (stop (a .1 .0)) (a .0 .as-long) (ap (walk net) (sym (a .0 .after)) ∙ a .1 .1) in
-              subst (RanAs ns t (Refused 16 k) bits′ known′ first′ places′) (sym w) refl
+              subst (RanAs ns t (Refused 16 k) (new .marking)) (sym w) refl
 
-          pub going-slots : (m : ℕ) → r ≡ Next m → Slots first′ places′
-          going-slots m e = told (Next m) e .0 .noted .slots
-
-          pub going-next : (m : ℕ) → r ≡ Next m → Going net plan ns t text whole (at + (5 + length scan)) (k + 1) way′ m bits′ known′ first′ places′
+          pub going-next : (m : ℕ) → r ≡ Next m → Going net plan ns t text whole (at + (5 + length scan)) (k + 1) m new
           going-next m e =
               let a = told (Next m) e in
               let z : k + 1 ≡ suc k = omega arith in
@@ -200,20 +197,26 @@ module _ (net : Network) (plan : Plan) (ns : List ℕ) (t : Summary) (text : Byt
                 few = omega (arith, g .few);
                 on = a .1;
                 runs =
-                    on-by (path (scanPath ns (take m way′))) (a .0 .as-long) (ap (walk net) (sym (a .0 .after)) ∙ a .1 .found .walks)
-                    ∙ behind-along (g .ps) route (runFrom net (suc k) (scanPath ns (take m way′)) (csu route (map byteBit scan) c) (line .others)) ∙ rw (z, a .0 .after) refl;
-                reached = reached-more t (g .ps) route k first places first′ places′ (g .number) (g .reached) (a .0 .noted);
+                    on-by (path (pathAt ns m new)) (a .0 .as-long) (ap (walk net) (sym (a .0 .after)) ∙ a .1 .found .walks)
+                    ∙ behind-along (g .ps) route (runFrom net (suc k) (pathAt ns m new) (csu route (map byteBit scan) c) (line .others)) ∙ rw (z, a .0 .after) refl;
+                reached = reached-more t (g .ps) route k (s .marking .firsts) (new .marking .firsts) (g .number) (g .reached) (a .0 .noted);
               }
 
 -- ---- from the start
 
-module _ (net : Network) (plan : Plan) (ns : List ℕ) (t : Summary) (text : Bytes) (bits known : List ℕ) (way : List ℕ) (r : Walked) (s : HoldsStart net ns t bits known)
-    (found : FindsPath ns bits known (t .out) r way) where
+module _ (net : Network) (plan : Plan) (ns : List ℕ) (t : Summary) (s : State) (r : Walked) (h : HoldsStart net ns t (s .marking))
+    (found : FindsPath ns (s .marking .bits) (s .marking .known) (t .out) r (s .way)) where
   pub start-stops : (m : ℕ) → r ≡ Stopped m → fromStart net plan (walk net (net .start)) ≡ refused 9 m
-  start-stops m e = ap (fromStart net plan) (ap (walk net) (sym (s .start)) ∙ found-stop net ns (t .count) (t .out) (s .stored) bits known r way found m e)
+  start-stops m e = ap (fromStart net plan) (ap (walk net) (sym (h .start)) ∙ found-stop net ns (t .count) (t .out) (h .stored) (s .marking .bits) (s .marking .known) r (s .way) found m e)
 
-  pub start-on : (n : ℕ) → r ≡ Path n → OnPath net ns t way n bits known
-  start-on n e = record { stored = s .stored; found = found-path net ns (t .count) (t .out) (s .stored) bits known r way found n e; in-limits = s .in-limits; sized = s .sized }
+  pub start-on : (n : ℕ) → r ≡ Path n → OnPath net ns t n s
+  start-on n e = record {
+    stored = h .stored;
+    found = found-path net ns (t .count) (t .out) (h .stored) (s .marking .bits) (s .marking .known) r (s .way) found n e;
+    in-limits = h .in-limits;
+    sized = h .sized;
+    slots = h .slots;
+  }
 
-  pub start-runs : (n : ℕ) → r ≡ Path n → runFrom net 1 (scanPath ns (take n way)) (configAt ns t bits known) plan ≡ fromStart net plan (walk net (net .start))
-  start-runs n e = rw (s .start) (sym (ap (fromStart net plan) (ap (walk net) (sym (s .start)) ∙ start-on n e .found .walks)))
+  pub start-runs : (n : ℕ) → r ≡ Path n → runFrom net 1 (pathAt ns n s) (configAt ns t (s .marking)) plan ≡ fromStart net plan (walk net (net .start))
+  start-runs n e = rw (h .start) (sym (ap (fromStart net plan) (ap (walk net) (sym (h .start)) ∙ start-on n e .found .walks)))

@@ -19,7 +19,7 @@ ghost use lib.ListN.{take};
 ghost use Rattle.network_path.specs.Answers.{HoldsPath};
 ghost use Rattle.network_path.specs.Layout.{scanPath};
 ghost use Rattle.plan_text.specs.Form.{HasForm};
-ghost use Rattle.marker_operations.specs.Operations.{Slots, NotedAt, Noted, OnSomePath, Operates, RunsFrom, Startable, Runs, Reached};
+ghost use Rattle.marker_operations.specs.Operations.{firsts, Reached, Slots, NotedAt, Noted, marking, state, OnSomePath, Operates, RunsFrom, Startable, Runs};
 
 pub enum Ran {
     Done,
@@ -38,8 +38,8 @@ fn note_target<'a>(
     places: &mut [usize; 4],
 )
     requires { ⌜ HoldsPath (now nodes) (now way) n ⌝ }
-    requires { ⌜ Slots (now first) (now places) × (i < 4) × (1 ≤ k) ⌝ }
-    ensures { λ _. ⌜ NotedAt (scanPath (now (nodes .entry)) (take n (now (way .entry)))) s i k (now (first .entry)) (now (places .entry)) (now (first .exit)) (now (places .exit)) ⌝ }
+    requires { ⌜ Slots (firsts (now first) (now places)) × (i < 4) × (1 ≤ k) ⌝ }
+    ensures { λ _. ⌜ NotedAt (scanPath (now (nodes .entry)) (take n (now (way .entry)))) s i k (firsts (now (first .entry)) (now (places .entry))) (firsts (now (first .exit)) (now (places .exit))) ⌝ }
 {
     if first[i] != 0 {
         return;
@@ -65,8 +65,8 @@ fn note_targets<'a>(
     places: &mut [usize; 4],
 )
     requires { ⌜ HoldsPath (now nodes) (now way) n ⌝ }
-    requires { ⌜ Slots (now first) (now places) × (count ≤ 4) × (1 ≤ k) ⌝ }
-    ensures { λ _. ⌜ Noted (scanPath (now (nodes .entry)) (take n (now (way .entry)))) (now (segments .entry)) count k (now (first .entry)) (now (places .entry)) (now (first .exit)) (now (places .exit)) ⌝ }
+    requires { ⌜ Slots (firsts (now first) (now places)) × (count ≤ 4) × (1 ≤ k) ⌝ }
+    ensures { λ _. ⌜ Noted (scanPath (now (nodes .entry)) (take n (now (way .entry)))) (now (segments .entry)) count k (firsts (now (first .entry)) (now (places .entry))) (firsts (now (first .exit)) (now (places .exit))) ⌝ }
 {
     let mut i: usize = 0;
     while i < count {
@@ -95,9 +95,8 @@ fn run_operation<'a>(
     first: &mut [usize; 4],
     places: &mut [usize; 4],
 ) -> Operated
-    requires { ⌜ OnSomePath (now nodes) t (now way) n (now bits) (now known) ⌝ }
-    requires { ⌜ Slots (now first) (now places) × (1 ≤ k) ⌝ }
-    ensures { λ r. ⌜ Operates (now (nodes .entry)) t (now (scan .entry)) k (now (way .entry)) n (now (bits .entry)) (now (known .entry)) (now (first .entry)) (now (places .entry)) r (now (way .exit)) (now (bits .exit)) (now (known .exit)) (now (first .exit)) (now (places .exit)) ⌝ }
+    requires { ⌜ OnSomePath (now nodes) t n (state (now way) (now bits) (now known) (now first) (now places)) × (1 ≤ k) ⌝ }
+    ensures { λ r. ⌜ Operates (now (nodes .entry)) t (now (scan .entry)) k n (state (now (way .entry)) (now (bits .entry)) (now (known .entry)) (now (first .entry)) (now (places .entry))) r (state (now (way .exit)) (now (bits .exit)) (now (known .exit)) (now (first .exit)) (now (places .exit))) ⌝ }
 {
     if scan.len() != path_length(nodes, way, n) {
         return Operated::WrongLength;
@@ -132,9 +131,9 @@ fn run_lines<'a>(
     places: &mut [usize; 4],
 ) -> Ran
     requires { ⌜ HasForm (now plan) ⌝ }
-    requires { ⌜ OnSomePath (now nodes) t (now way) count (now bits) (now known) ⌝ }
-    requires { ⌜ Slots (now first) (now places) × Reached t (now first) (now places) [] ⌝ }
-    ensures { λ r. ⌜ RunsFrom (now (nodes .entry)) t (now (plan .entry)) (now (way .entry)) count (now (bits .entry)) (now (known .entry)) r (now (bits .exit)) (now (known .exit)) (now (first .exit)) (now (places .exit)) ⌝ }
+    requires { ⌜ OnSomePath (now nodes) t count (state (now way) (now bits) (now known) (now first) (now places)) ⌝ }
+    requires { ⌜ Reached t (firsts (now first) (now places)) [] ⌝ }
+    ensures { λ r. ⌜ RunsFrom (now (nodes .entry)) t (now (plan .entry)) count (state (now (way .entry)) (now (bits .entry)) (now (known .entry)) (now (first .entry)) (now (places .entry))) r (state (now (way .exit)) (now (bits .exit)) (now (known .exit)) (now (first .exit)) (now (places .exit))) ⌝ }
 {
     let mut n = count;
     let mut at: usize = 0;
@@ -163,9 +162,8 @@ pub fn run_plan<'a>(
     places: &mut [usize; 4],
 ) -> Ran
     requires { ⌜ HasForm (now plan) ⌝ }
-    requires { ⌜ Startable (now nodes) t (now bits) (now known) ⌝ }
-    requires { ⌜ Slots (now first) (now places) × Reached t (now first) (now places) [] ⌝ }
-    ensures { λ r. ⌜ Runs (now (nodes .entry)) t (now (plan .entry)) (now (bits .entry)) (now (known .entry)) r (now (bits .exit)) (now (known .exit)) (now (first .exit)) (now (places .exit)) ⌝ }
+    requires { ⌜ Startable (now nodes) t (marking (now bits) (now known) (now first) (now places)) ⌝ }
+    ensures { λ r. ⌜ Runs (now (nodes .entry)) t (now (plan .entry)) (marking (now (bits .entry)) (now (known .entry)) (now (first .entry)) (now (places .entry))) r (marking (now (bits .exit)) (now (known .exit)) (now (first .exit)) (now (places .exit))) ⌝ }
 {
     let mut way = [0u16; MAX_NODES];
     match find_path(nodes, bits, known, t.out, &mut way) {

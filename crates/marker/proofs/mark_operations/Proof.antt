@@ -23,20 +23,20 @@ judge-requires : tie.Need-judge-requires
 judge-requires c κs =
     let told = c .before .before .before .before .before .before in
     let ran = told .before .before in
-    judgeable _ _ _ (ran .before .before .before .before .before .before .before .before .before .before .before .pre) _ _ _ _ _ (ran .run-plan .ensures) (told .enum-told .given .1)
+    judgeable _ _ _ (ran .before .before .before .before .before .before .before .before .before .before .before .pre) _ _ (ran .run-plan .ensures) (told .enum-told .given .1)
 
 returns : tie.Need-returns
 returns c =
     let refusal = c .before .before in
     let ran = refusal .before .before in
     let e = c .refused .ensures in
-    (ap markOf e ∙ run-refused _ _ _ (ran .before .before .before .before .before .before .before .before .before .before .before .pre) _ _ _ _ _ (ran .run-plan .ensures) _ _ (refusal .ran .given .1), rows-refused _ _ _ e)
+    (ap markOf e ∙ run-refused _ _ _ (ran .before .before .before .before .before .before .before .before .before .before .before .pre) _ _ (ran .run-plan .ensures) _ _ (refusal .ran .given .1), rows-refused _ _ _ e)
 
 returns-2 : tie.Need-returns-2
 returns-2 c =
     let told = c .before .before .before .before .before .before .before in
     let ran = told .before .before in
-    (judged _ _ _ (ran .before .before .before .before .before .before .before .before .before .before .before .pre) _ _ _ _ _ (ran .run-plan .ensures) (c .judge .result) (told .enum-told .given .1) (c .judge .ensures .0), c .judge .ensures .1)
+    (judged _ _ _ (ran .before .before .before .before .before .before .before .before .before .before .before .pre) _ _ (ran .run-plan .ensures) (c .judge .result) (told .enum-told .given .1) (c .judge .ensures .0), c .judge .ensures .1)
 
 pub mark-operations-spec : {M : Type 1} → statement M
 mark-operations-spec =

@@ -14,7 +14,7 @@ element-copy-out-if1 : tie.Need-element-copy-out-if1
 element-copy-out-if1 c = search needs
 
 returns : tie.Need-returns
-returns c = noted-before _ _ _ _ _ _ (c .before .before .pre .1 .0) (c .if1 .taken)
+returns c = noted-before _ _ _ _ _ (c .before .before .pre .1 .0) (c .if1 .taken)
 
 place-of-requires : tie.Need-place-of-requires
 place-of-requires c κs = search needs
@@ -41,14 +41,14 @@ returns-2 : tie.Need-returns-2
 returns-2 c =
     let p = c .before .before .before in
     let s = p .before .before .before in
-    noted-here _ _ _ _ _ _ (s .pre .1 .0) _ (p .before .if1 .left) (sym (ap placed (c .before .p .given .1)) ∙ p .place-of .ensures) (s .pre .1 .2) (s .pre .1 .1)
+    noted-here _ _ _ _ _ (s .pre .1 .0) _ (p .before .if1 .left) (sym (ap placed (c .before .p .given .1)) ∙ p .place-of .ensures) (s .pre .1 .2) (s .pre .1 .1)
 
 returns-3 : tie.Need-returns-3
 returns-3 c =
     let at-place-of = c .before .before in
     let at-if1 = at-place-of .before in
     let at-start = at-if1 .before .before in
-    noted-off _ _ _ _ _ _ (at-start .pre .1 .0) (at-if1 .if1 .left) (sym (ap placed (c .enum-told .given .1)) ∙ at-place-of .place-of .ensures)
+    noted-off _ _ _ _ _ (at-start .pre .1 .0) (at-if1 .if1 .left) (sym (ap placed (c .enum-told .given .1)) ∙ at-place-of .place-of .ensures)
 
 pub note-target-spec : {M : Type 1} → statement M
 note-target-spec =

@@ -4,19 +4,20 @@ use Prim.Native.Nat.{_≤_, _-_}
 use native.Mathlib.Omega.{arith}
 use lib.ListN.{take}
 use Rattle.network_path.specs.Layout.{scanPath}
+use Rattle.marker_operations.specs.Operations.{firsts}
 use Rattle.marker_operations.proofs.Noting.{Noting, noting-none, noting-next}
 use borrow.Author.Needs.{needs}
 use Rattle.marker_operations.proofs.note_targets.Statement.{statement}
 use Rattle.marker_operations.proofs.note_targets.Tie as tie
 
 abbrev Inv-loop : tie.InvT-loop
-Inv-loop nodes way n segments count k first₀ places₀ i₀ first places i = (i ≤ count) × Noting (scanPath nodes (take n way)) segments k first₀ places₀ i first places
+Inv-loop nodes way n segments count k first₀ places₀ i₀ first places i = (i ≤ count) × Noting (scanPath nodes (take n way)) segments k (firsts first₀ places₀) i (firsts first places)
 
 abbrev μ-loop : tie.MeasureT-loop
 μ-loop nodes way n segments count k first₀ places₀ i₀ first places i = count - i
 
 loop-holds : tie.Need-loop-holds Inv-loop μ-loop
-loop-holds c = (search needs, noting-none _ _ _ _ _ (c .pre .1 .0))
+loop-holds c = (search needs, noting-none _ _ _ _ (c .pre .1 .0))
 
 mul-wide : tie.Need-mul-wide Inv-loop μ-loop
 mul-wide c = search needs
@@ -39,7 +40,7 @@ loop-less : tie.Need-loop-less Inv-loop μ-loop
 loop-less c = search needs
 
 loop-again : tie.Need-loop-again Inv-loop μ-loop
-loop-again c = (search needs, noting-next _ _ _ _ _ _ _ _ _ _ _ (c .before .before .before .wide .ensures) (c .before .before .before .before .before .before .loop .inv .1) (c .note-target .ensures))
+loop-again c = (search needs, noting-next _ _ _ _ _ _ _ _ (c .before .before .before .wide .ensures) (c .before .before .before .before .before .before .loop .inv .1) (c .note-target .ensures))
 
 returns : tie.Need-returns Inv-loop μ-loop
 returns c =

@@ -16,7 +16,7 @@ returns c = λ net o l. c .if1 .taken (l ∙ sym (c .before .path-length .ensure
 note-targets-requires : tie.Need-note-targets-requires
 note-targets-requires c κs =
     let at-start = c .before .before .before .before .before .before .before .before .before in
-    (at-start .pre .0 .1 .found .holds, (at-start .pre .1 .0, at-start .pre .0 .1 .in-limits .targets-fit, at-start .pre .1 .1))
+    (at-start .pre .0 .1 .found .holds, (at-start .pre .0 .1 .slots, at-start .pre .0 .1 .in-limits .targets-fit, at-start .pre .1))
 
 load-requires : tie.Need-load-requires
 load-requires c κs =
@@ -43,7 +43,7 @@ returns-2 c =
     let at-note-targets = at-load .before .before .before .before in
     let at-if1 = at-note-targets .before .before .before .before .before .before in
     let at-path-length = at-if1 .before in
-    op-next _ _ _ _ _ _ _ _ _ _ _ _ _ _ _ _ _ (at-path-length .path-length .ensures) (at-if1 .if1 .left) (at-note-targets .note-targets .ensures) (at-load .load .ensures) (at-find-path .find-path .ensures) _ (c .before .next .given .1)
+    op-next _ _ _ _ _ _ _ _ _ (at-path-length .path-length .ensures) (at-if1 .if1 .left) (at-note-targets .note-targets .ensures) (at-load .load .ensures) (at-find-path .find-path .ensures) _ (c .before .next .given .1)
 
 returns-3 : tie.Need-returns-3
 returns-3 c =
@@ -52,7 +52,7 @@ returns-3 c =
     let at-note-targets = at-load .before .before .before .before in
     let at-if1 = at-note-targets .before .before .before .before .before .before in
     let at-path-length = at-if1 .before in
-    op-stop _ _ _ _ _ _ _ _ _ _ _ _ _ _ _ _ _ (at-path-length .path-length .ensures) (at-if1 .if1 .left) (at-note-targets .note-targets .ensures) (at-load .load .ensures) (at-find-path .find-path .ensures) _ (c .enum-told .given .1)
+    op-stop _ _ _ _ _ _ _ _ _ (at-path-length .path-length .ensures) (at-if1 .if1 .left) (at-note-targets .note-targets .ensures) (at-load .load .ensures) (at-find-path .find-path .ensures) _ (c .enum-told .given .1)
 
 pub run-operation-spec : {M : Type 1} → statement M
 run-operation-spec =

@@ -4,13 +4,14 @@ use Prim.Native.Nat.{_-_}
 use mathlib.Core.Logic.{⊎-elim}
 use mathlib.Core.Path.{refl}
 use native.Mathlib.Omega.{arith}
+use Rattle.marker_operations.specs.Operations.{marking}
 use Rattle.marker.proofs.Judging.{Judging, judging-first, judging-held, judging-read, judged-unreached, judged-not-held, judged-last}
 use borrow.Author.Needs.{needs}
 use Rattle.marker.proofs.targets.judge.Statement.{statement}
 use Rattle.marker.proofs.targets.judge.Tie as tie
 
 abbrev Inv-loop : tie.InvT-loop
-Inv-loop nodes bits known first places lines clocks t gots₀ i₀ gots i = Judging nodes t bits known first places lines clocks gots i
+Inv-loop nodes bits known first places lines clocks t gots₀ i₀ gots i = Judging nodes t (marking bits known first places) lines clocks gots i
 
 abbrev μ-loop : tie.MeasureT-loop
 μ-loop nodes bits known first places lines clocks t gots₀ i₀ gots i = t .«target_count» - i
@@ -19,7 +20,7 @@ no-gots-requires : tie.Need-no-gots-requires Inv-loop μ-loop
 no-gots-requires c κs = search needs
 
 loop-holds : tie.Need-loop-holds Inv-loop μ-loop
-loop-holds c = rw (c .no-gots .ensures) (judging-first _ _ _ _ _ _ _ _)
+loop-holds c = rw (c .no-gots .ensures) (judging-first _ _ _ _ _)
 
 mul-if1 : tie.Need-mul-if1 Inv-loop μ-loop
 mul-if1 c = search needs
@@ -37,7 +38,7 @@ returns : tie.Need-returns Inv-loop μ-loop
 returns c =
     let a = c .before .before .before .before in
     let k = c .before .before .before .loop-test .taken in
-    rw (c .refused .ensures) (judged-unreached _ _ _ _ _ _ _ _ (a .loop .gots) (a .loop .i) (a .loop .inv) (a .before .before .pre) k (c .before .if1 .taken), refl)
+    rw (c .refused .ensures) (judged-unreached _ _ _ _ _ (a .loop .gots) (a .loop .i) (a .loop .inv) (a .before .before .pre) k (c .before .if1 .taken), refl)
 
 mul-if2 : tie.Need-mul-if2 Inv-loop μ-loop
 mul-if2 c = search needs
@@ -61,7 +62,7 @@ returns-2 c =
     let l = a .loop in
     let h = c .before .before in
     rw (c .refused2 .ensures)
-    (judged-not-held _ _ _ _ _ _ _ _ (l .gots) (l .i) (l .inv) (a .before .before .pre) k (h .is-held .result) (h .before .if2 .taken) (h .is-held .ensures) (c .before .if3 .taken), refl)
+    (judged-not-held _ _ _ _ _ (l .gots) (l .i) (l .inv) (a .before .before .pre) k (h .is-held .result) (h .before .if2 .taken) (h .is-held .ensures) (c .before .if3 .taken), refl)
 
 add-push : tie.Need-add-push Inv-loop μ-loop
 add-push c = search needs
@@ -97,12 +98,12 @@ loop-again c =
     let k = c .before .before .before .before .loop-test .taken in
     let ne = c .before .before .if1 .left in
     ⊎-elim
-    (λ w. rw (w .3) (judging-held _ _ _ _ _ _ _ _ (l .gots) (l .i) (l .inv) j k ne (w .1 .result) (w .0 .taken) (w .1 .ensures) (w .2 .left)))
-    (λ w. rw (w .4) (judging-read _ _ _ _ _ _ _ _ (l .gots) (l .i) (l .inv) j k ne _ (w .0 .left) (w .3 .ensures)))
+    (λ w. rw (w .3) (judging-held _ _ _ _ _ (l .gots) (l .i) (l .inv) j k ne (w .1 .result) (w .0 .taken) (w .1 .ensures) (w .2 .left)))
+    (λ w. rw (w .4) (judging-read _ _ _ _ _ (l .gots) (l .i) (l .inv) j k ne _ (w .0 .left) (w .3 .ensures)))
     (c .if2 .came)
 
 returns-3 : tie.Need-returns-3 Inv-loop μ-loop
-returns-3 c = let l = c .before .loop in (judged-last _ _ _ _ _ _ _ _ (l .gots) (l .i) (l .inv) (c .loop-test .left), l .inv .blank)
+returns-3 c = let l = c .before .loop in (judged-last _ _ _ _ _ (l .gots) (l .i) (l .inv) (c .loop-test .left), l .inv .blank)
 
 pub judge-spec : {M : Type 1} → statement M
 judge-spec =
