@@ -13,7 +13,7 @@ use Rattle.model.specs.Tap.{idle}
 use Rattle.model.specs.Places.{_or_, Listed, ClockRefusal, short-row, PlanTextRefusal, plan-line, plan-unended, plan-too-long}
 use Rattle.model.specs.Calls.{writeClocks}
 use Rattle.model.proofs.Demands.{clock-buffers, refusals}
-use Rattle.clock_writer.specs.Machine.{number, isOne, stateAfter}
+use Rattle.clock_writer.specs.Machine.{stateNumber, isOne, stateAfter}
 use Rattle.clock_writer.specs.declared.Written.{Written}
 use Rattle.clock_writer.specs.declared.Written.the-variants.{Refused}
 use Rattle.clock_writer.specs.Clocks.{writtenAnswer, WroteClocks}
@@ -58,5 +58,5 @@ refuses-only-short p tms tdi w tms′ tdi′ wrote place e = go (ends-listed p t
 
 pub back-to-idle : BackToIdle
 back-to-idle p tms tdi count tms′ tdi′ wrote state ran =
-    ran ∙ ap (λ (t : List ℕ). number (stateAfter idle (map isOne (take count t)))) (wrote .tms-left)
-    ∙ ap number (idle-after p tms tdi count (sym (wrote .result)))
+    ran ∙ ap (λ (t : List ℕ). stateNumber (stateAfter idle (map isOne (take count t)))) (wrote .tms-left)
+    ∙ ap stateNumber (idle-after p tms tdi count (sym (wrote .result)))

@@ -12,14 +12,14 @@ use lib.Dec.{lit<}
 use Rattle.model.specs.Tap.{Tap, reset, idle, selectDR, captureDR, shiftDR, exit1DR, pauseDR, exit2DR, updateDR, selectIR, captureIR, shiftIR, exit1IR, pauseIR, exit2IR, updateIR, next}
 use Rattle.model.specs.Text.{Bytes}
 use Rattle.model.proofs.Lists.{getD-tabulate}
-use Rattle.clock_writer.specs.Machine.{states, stateAt, number, isOne, columnOf, nextNumber, stateAfter}
+use Rattle.clock_writer.specs.Machine.{states, stateAt, stateNumber, isOne, columnOf, nextNumber, stateAfter}
 
 -- ---- the states and their numbers
 
-number-at : (s : ℕ) → s < 16 → number (stateAt s) ≡ s
-number-at s h = sym (List·getD-map number states s reset) ∙ getD-tabulate (λ k. k) 0 16 s 0 h ∙ zero-add s
+number-at : (s : ℕ) → s < 16 → stateNumber (stateAt s) ≡ s
+number-at s h = sym (List·getD-map stateNumber states s reset) ∙ getD-tabulate (λ k. k) 0 16 s 0 h ∙ zero-add s
 
-numbered : (t : Tap) → (number t < 16) × (stateAt (number t) ≡ t)
+numbered : (t : Tap) → (stateNumber t < 16) × (stateAt (stateNumber t) ≡ t)
 numbered reset = (lit< tt, refl)
 numbered idle = (lit< tt, refl)
 numbered selectDR = (lit< tt, refl)
@@ -46,7 +46,7 @@ rows =
     ∷ (1 ∷ 2 ∷ []) ∷ (10 ∷ 0 ∷ []) ∷ (11 ∷ 12 ∷ []) ∷ (11 ∷ 12 ∷ []) ∷ (13 ∷ 15 ∷ []) ∷ (13 ∷ 14 ∷ []) ∷ (11 ∷ 15 ∷ []) ∷ (1 ∷ 2 ∷ []) ∷ []
 
 abbrev rowFor : Tap → List ℕ
-rowFor t = number (next t false) ∷ number (next t true) ∷ []
+rowFor t = stateNumber (next t false) ∷ stateNumber (next t true) ∷ []
 
 -- the rule, computed once over the whole table
 table-rule : rows ≡ map rowFor states
@@ -57,7 +57,7 @@ getD-inside [] n d e h = absurd (not-suc-le-zero h)
 getD-inside (a ∷ l) zero d e h = refl
 getD-inside (a ∷ l) (suc n) d e h = getD-inside l n d e (le-of-suc-le-suc h)
 
-by-column : (t : Tap) (m : Bool) → getD (rowFor t) (cond m 1 0) 0 ≡ number (next t m)
+by-column : (t : Tap) (m : Bool) → getD (rowFor t) (cond m 1 0) 0 ≡ stateNumber (next t m)
 by-column t true = refl
 by-column t false = refl
 
@@ -78,11 +78,11 @@ column-small b = go (isOne b)
 -- ---- the state s from clock i on, where t is the last state
 
 module _ (tms : Bytes) (s i : ℕ) (t : Tap) (whole : stateAfter (stateAt s) (map isOne (drop i tms)) ≡ t) where
-  pub run-end : s < 16 → length tms ≤ i → s ≡ number t
+  pub run-end : s < 16 → length tms ≤ i → s ≡ stateNumber t
   unfolding stateAfter
   run-end h l =
       let e : stateAfter (stateAt s) (map isOne (drop i tms)) ≡ stateAt s = rw (drop-of-length-le tms l) in
-      sym (number-at s h) ∙ ap number (sym e ∙ whole)
+      sym (number-at s h) ∙ ap stateNumber (sym e ∙ whole)
 
   pub run-next : (r : ℕ) → i < length tms → r ≡ nextNumber s (isOne (getD tms i 0)) → (r < 16) × (stateAfter (stateAt r) (map isOne (drop (i + 1) tms)) ≡ t)
   unfolding stateAfter

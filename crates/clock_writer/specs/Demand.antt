@@ -13,7 +13,7 @@ use Rattle.model.specs.Tap.{idle}
 use Rattle.model.specs.Places.{_or_, ClockRefusal, PlanTextRefusal}
 use Rattle.clock_writer.specs.declared.Written.{Written}
 use Rattle.clock_writer.specs.declared.Written.the-variants.{Clocks, Refused}
-use Rattle.clock_writer.specs.Machine.{number, RunReturned}
+use Rattle.clock_writer.specs.Machine.{stateNumber, RunReturned}
 use Rattle.clock_writer.specs.Clocks.{WroteClocks}
 
 -- ---- demand 1
@@ -38,4 +38,4 @@ RefusesOnlyShort = (p : Bytes) (tms tdi : List ℕ) (w : Written) (tms′ tdi′
 -- the clock machine, run from Run-Test/Idle over the TMS bytes written, returns Run-Test/Idle
 abbrev pub BackToIdle : Type 0
 BackToIdle = (p : Bytes) (tms tdi : List ℕ) (count : ℕ) (tms′ tdi′ : List ℕ) → WroteClocks p tms tdi (Clocks count) tms′ tdi′
-    → (state : ℕ) → RunReturned (number idle) (take count tms′) state → state ≡ number idle
+    → (state : ℕ) → RunReturned (stateNumber idle) (take count tms′) state → state ≡ stateNumber idle

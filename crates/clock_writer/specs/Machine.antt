@@ -1,4 +1,4 @@
--- The controller's states by number, and the clock machine over them.
+-- The controller's states by stateNumber, and the clock machine over them.
 -- Assumes nothing.
 use mathlib.Core.Path.{_≡_}
 use mathlib.Core.Bool.{Bool, cond}
@@ -18,23 +18,23 @@ states =
 abbrev pub stateAt : ℕ → Tap
 stateAt n = getD states n reset
 
-abbrev pub number : Tap → ℕ
-number reset = 0
-number idle = 1
-number selectDR = 2
-number captureDR = 3
-number shiftDR = 4
-number exit1DR = 5
-number pauseDR = 6
-number exit2DR = 7
-number updateDR = 8
-number selectIR = 9
-number captureIR = 10
-number shiftIR = 11
-number exit1IR = 12
-number pauseIR = 13
-number exit2IR = 14
-number updateIR = 15
+abbrev pub stateNumber : Tap → ℕ
+stateNumber reset = 0
+stateNumber idle = 1
+stateNumber selectDR = 2
+stateNumber captureDR = 3
+stateNumber shiftDR = 4
+stateNumber exit1DR = 5
+stateNumber pauseDR = 6
+stateNumber exit2DR = 7
+stateNumber updateDR = 8
+stateNumber selectIR = 9
+stateNumber captureIR = 10
+stateNumber shiftIR = 11
+stateNumber exit1IR = 12
+stateNumber pauseIR = 13
+stateNumber exit2IR = 14
+stateNumber updateIR = 15
 
 -- TMS by its byte: `1` is 1
 abbrev pub isOne : ℕ → Bool
@@ -45,7 +45,7 @@ columnOf b = cond (isOne b) 1 0
 
 -- the next state by numbers
 abbrev pub nextNumber : ℕ → Bool → ℕ
-nextNumber state tms = number (next (stateAt state) tms)
+nextNumber state tms = stateNumber (next (stateAt state) tms)
 
 -- the state after these clocks
 unfoldable pub stateAfter : Tap → List Bool → Tap
@@ -54,4 +54,4 @@ stateAfter state (tms ∷ clocks) = stateAfter (next state tms) clocks
 
 -- `run` returned r from a state on for the clocks of these TMS bytes
 abbrev pub RunReturned : ℕ → Bytes → ℕ → Type 0
-RunReturned state tms r = r ≡ number (stateAfter (stateAt state) (map isOne tms))
+RunReturned state tms r = r ≡ stateNumber (stateAfter (stateAt state) (map isOne tms))

@@ -24,7 +24,7 @@ use Rattle.marker.specs.declared.targets.Gots.{Gots}
 use Rattle.marker.specs.declared.targets.Verdict.the-variants.{Pass as Passed}
 use Rattle.marker.specs.Marks.{gotsOf, ZerosBehind, noGots, refusedMark}
 use Rattle.marker_operations.specs.Operations.{accessOf, Reached, Marking, configAt}
-use Rattle.marker.specs.Targets.{Pushed, segmentOf, Judgeable, lenAt, isHeld, Judges}
+use Rattle.marker.specs.Targets.{Pushed, segmentOf, Judgeable, lenAt, targetHeld, Judges}
 use Rattle.marker.proofs.Rows.{blank-none}
 
 -- ---- bits
@@ -138,7 +138,7 @@ module _ (ns : List ℕ) (t : Summary) (m : Marking) (lines clocks : ℕ) where
       answer false a h rest = andThen (readAt (i + 1) a rest) onward
 
       by-target : (ps : List ScanPath) → Reached t (m .firsts) ps
-          → andThen (targetsFrom 1 ps conf (targetsOf ns t)) (passedWith lines clocks) ≡ answer (eqb word 1) (accessOf operation position) (isHeld ns t (m .bits) (m .known) i) (later ps)
+          → andThen (targetsFrom 1 ps conf (targetsOf ns t)) (passedWith lines clocks) ≡ answer (eqb word 1) (accessOf operation position) (targetHeld ns t (m .bits) (m .known) i) (later ps)
       unfolding targetsFrom
       by-target ps reached =
           w .rest ps reached ∙ ap (λ (ts : List Target). andThen (targetsFrom (suc i) ps conf ts) onward) (tabulate-step (targetAt ns t) i (t .«target_count») l)
@@ -146,7 +146,7 @@ module _ (ns : List ℕ) (t : Summary) (m : Marking) (lines clocks : ℕ) where
         where
           go : (b : Bool)
               → andThen (targetsFrom (suc i) ps conf (cond b (write (segmentOf t i) (asked ns t i)) (read (segmentOf t i)) ∷ tabulate (targetAt ns t) (i + 1) (t .«target_count» - (i + 1)))) onward
-              ≡ answer b (accessOf operation position) (isHeld ns t (m .bits) (m .known) i) (later ps)
+              ≡ answer b (accessOf operation position) (targetHeld ns t (m .bits) (m .known) i) (later ps)
           go true = rw (add-one i, reached i l, config-row ns (m .bits) (m .known) (t .count) (segmentOf t i) (j .least i l) (j .most i l))
           go false = rw (add-one i, reached i l)
 
@@ -154,13 +154,13 @@ module _ (ns : List ℕ) (t : Summary) (m : Marking) (lines clocks : ℕ) where
 
       pub judged-unreached : operation ≡ 0 → Judges ns t m lines clocks (refusedMark 17 (i + 1))
       judged-unreached e ps reached =
-          sym (by-target ps reached ∙ ap (λ (k : ℕ). answer (eqb word 1) (accessOf k position) (isHeld ns t (m .bits) (m .known) i) (later ps)) e ∙ go (eqb word 1))
+          sym (by-target ps reached ∙ ap (λ (k : ℕ). answer (eqb word 1) (accessOf k position) (targetHeld ns t (m .bits) (m .known) i) (later ps)) e ∙ go (eqb word 1))
         where
-          go : (b : Bool) → answer b none (isHeld ns t (m .bits) (m .known) i) (later ps) ≡ refused 17 (i + 1)
+          go : (b : Bool) → answer b none (targetHeld ns t (m .bits) (m .known) i) (later ps) ≡ refused 17 (i + 1)
           go true = refl
           go false = refl
 
-      pub judged-not-held : (h : Bool) → word ≡ 1 → h ≡ isHeld ns t (m .bits) (m .known) i → not h ≡ true → Judges ns t m lines clocks (refusedMark 17 (i + 1))
+      pub judged-not-held : (h : Bool) → word ≡ 1 → h ≡ targetHeld ns t (m .bits) (m .known) i → not h ≡ true → Judges ns t m lines clocks (refusedMark 17 (i + 1))
       judged-not-held h e f n ps reached = sym (by-target ps reached ∙ rw (eq-eqb word 1 e, ← f, not-true h n) (go (accessOf operation position)))
         where
           go : (a : Option (ℕ × ℕ)) → answer true a false (later ps) ≡ refused 17 (i + 1)
@@ -170,7 +170,7 @@ module _ (ns : List ℕ) (t : Summary) (m : Marking) (lines clocks : ℕ) where
       -- one target more
 
       module _ (ne : operation ≡ 0 → ⊥) where
-        pub judging-held : (h : Bool) → word ≡ 1 → h ≡ isHeld ns t (m .bits) (m .known) i → not h ≡ false → Judging ns t m lines clocks gots (i + 1)
+        pub judging-held : (h : Bool) → word ≡ 1 → h ≡ targetHeld ns t (m .bits) (m .known) i → not h ≡ false → Judging ns t m lines clocks gots (i + 1)
         judging-held h e f n = record {
           within = omega arith;
           rows = omega (arith, w .rows);

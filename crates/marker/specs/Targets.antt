@@ -44,8 +44,8 @@ abbrev pub lenAt : List ℕ → Summary → ℕ → ℕ
 lenAt ns t i = lenOf (nodeAt ns (segmentOf t i))
 
 -- write target i holds its bits
-abbrev pub isHeld : List ℕ → Summary → List ℕ → List ℕ → ℕ → Bool
-isHeld ns t bits known i =
+abbrev pub targetHeld : List ℕ → Summary → List ℕ → List ℕ → ℕ → Bool
+targetHeld ns t bits known i =
     holdsBits (tritsOf (lenAt ns t i) (getD bits (segmentOf t i) 0) (getD known (segmentOf t i) 0)) (tabulate (wordBit (getD (t .«target_bits») i 0)) 0 (lenAt ns t i))
 
 -- what it answers: the verdict on the targets after operations with any paths that its first operations tell of

@@ -14,7 +14,7 @@ ghost use Rattle.model.specs.Network.{tabulate};
 ghost use Rattle.network_words.specs.Words.{wordWidth, wordBit, tritsOf};
 ghost use Rattle.marker_operations.specs.Operations.{marking};
 ghost use Rattle.marker.specs.Marks.{noGots, ZerosBehind, refusedMark, RowsFor};
-ghost use Rattle.marker.specs.Targets.{Pushed, Judgeable, isHeld, Judges};
+ghost use Rattle.marker.specs.Targets.{Pushed, Judgeable, targetHeld, Judges};
 
 // `pass` with the counts of operations and of clocks, or a refusal's number and place.
 pub enum Verdict {
@@ -96,7 +96,7 @@ fn holds_bits(bits: Word, known: Word, want: Word, len: usize) -> bool
 // Whether write target i holds its bits.
 fn is_held<'a>(nodes: &'a Nodes, t: Summary, bits: &'a Words, known: &'a Words, i: usize) -> bool
     requires { ⌜ Judgeable (now nodes) t (now bits) (now known) × (i < t .«target_count») ⌝ }
-    ensures { λ r. ⌜ r ≡ isHeld (now (nodes .entry)) t (now (bits .entry)) (now (known .entry)) i ⌝ }
+    ensures { λ r. ⌜ r ≡ targetHeld (now (nodes .entry)) t (now (bits .entry)) (now (known .entry)) i ⌝ }
 {
     let s = wide(t.target_segment[i]);
     holds_bits(bits[s], known[s], t.target_bits[i], segment_len(nodes, s))

@@ -8,31 +8,31 @@ use native.Mathlib.Omega.{arith}
 use lib.ListN.{length, drop, length-drop}
 use lib.Seq.{drop-cons}
 use Rattle.model.specs.Network.{at}
-use Rattle.model.specs.Places.{behindLines, IsLine, Rows, Listed}
+use Rattle.model.specs.Places.{behindLines, IsLine, RefusalRows, Listed}
 use Rattle.model.specs.Result.{Result, ok, refused, refuseIf, andThen}
 use Rattle.model.specs.Text.{Bytes, lineEnd, parts}
 use Rattle.model.proofs.Lists.{refuse-case}
 
 -- the result ends with a value that has P, or with one of the rows
-pub data Ends {A : Type 0} (rows : Rows) (P : A → Type 0) : Result A → Type 0 where
+pub data Ends {A : Type 0} (rows : RefusalRows) (P : A → Type 0) : Result A → Type 0 where
   gives : {a : A} → P a → Ends rows P (ok a)
   refuses : {number place : ℕ} → rows number place → Ends rows P (refused number place)
 
-pub listed : {A : Type 0} {rows : Rows} {P : A → Type 0} {r : Result A} → Ends rows P r → Listed rows r
+pub listed : {A : Type 0} {rows : RefusalRows} {P : A → Type 0} {r : Result A} → Ends rows P r → Listed rows r
 listed (gives p) = tt
 listed (refuses row) = row
 
-pub ends-if : {A : Type 0} {rows : Rows} {P : A → Type 0} (t : Bool) (number place : ℕ) (r : Result A)
+pub ends-if : {A : Type 0} {rows : RefusalRows} {P : A → Type 0} (t : Bool) (number place : ℕ) (r : Result A)
     → (t ≡ true → rows number place) → (t ≡ false → Ends rows P r) → Ends rows P (refuseIf t number place r)
 ends-if t number place r f g = refuse-case (Ends _ _) t number place r (λ e. refuses (f e)) g
 
-pub ends-then : {A B : Type 0} {rows : Rows} {P : A → Type 0} {Q : B → Type 0} {r : Result A} (f : A → Result B)
+pub ends-then : {A B : Type 0} {rows : RefusalRows} {P : A → Type 0} {Q : B → Type 0} {r : Result A} (f : A → Result B)
     → Ends rows P r → ((a : A) → r ≡ ok a → P a → Ends rows Q (f a)) → Ends rows Q (andThen r f)
 ends-then f (gives p) g = g _ refl p
 ends-then f (refuses row) g = refuses row
 
 -- one of more rows
-pub ends-more : {A : Type 0} {rows more : Rows} {P : A → Type 0} {r : Result A} → ((number place : ℕ) → rows number place → more number place)
+pub ends-more : {A : Type 0} {rows more : RefusalRows} {P : A → Type 0} {r : Result A} → ((number place : ℕ) → rows number place → more number place)
     → Ends rows P r → Ends more P r
 ends-more f (gives p) = gives p
 ends-more f (refuses row) = refuses (f _ _ row)

@@ -47,16 +47,16 @@ pub record IsTargetNumber (n : Bytes) (t : ℕ) : Type 0 where
 
 -- ---- rows: which numbers with which places
 
-abbrev pub Rows : Type 1
-Rows = ℕ → ℕ → Type 0
+abbrev pub RefusalRows : Type 1
+RefusalRows = ℕ → ℕ → Type 0
 
 -- the rows of both
 infixr 2 _or_
-abbrev pub _or_ : Rows → Rows → Rows
+abbrev pub _or_ : RefusalRows → RefusalRows → RefusalRows
 (first or second) number place = first number place ⊎ second number place
 
 -- "a result or one listed number and place"
-abbrev pub Listed : {A : Type 0} → Rows → Result A → Type 0
+abbrev pub Listed : {A : Type 0} → RefusalRows → Result A → Type 0
 Listed rows (ok a) = Unit {0}
 Listed rows (refused number place) = rows number place
 

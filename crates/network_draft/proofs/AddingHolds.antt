@@ -17,7 +17,7 @@ use Rattle.model.specs.Network.{Node, segment, multiplexer, at, noNode, isSegme
 use Rattle.model.specs.NetworkText.{Draft, hasOut, isSome, fitsBits, isHeld, addHold, withHold, outside}
 use Rattle.model.proofs.Lists.{or-parts, true-false, or-false-right, or-assoc, and-false-right}
 use Rattle.model.proofs.Reading.{sound-hold}
-use Rattle.network_words.specs.Words.{tritsOf, wordOf, isOne, isKnown, byteBit, wordFrom, byteKnown}
+use Rattle.network_words.specs.Words.{tritsOf, wordOfBits, isSet, isKnown, byteBit, wordFrom, byteKnown}
 use Rattle.network_path.specs.Layout.{nodeAt}
 use Rattle.network_words.proofs.FieldLaws.{trits-of-field, bits-word-of, known-word-of}
 use Rattle.text.proofs.Bits.{is-some, from-length}
@@ -155,11 +155,11 @@ module _ {a : Arrays} {t : Summary} {d : Draft} {n : ℕ} (w : Represents a t d 
           rw (getD-set-other (a .held) s r 1 0 ne, getD-set-other (a .bits) s r (wordFrom byteBit 0 f) 0 ne, getD-set-other (a .known) s r (wordFrom byteKnown 0 f) 0 ne) (w .start-is r l other)
 
   -- a word of start bits, with the bits of this line
-  word-more : (g : Trit → Bool) (old : List ℕ) (v : ℕ) → s < length old → v ≡ wordOf (map g (bitsIn trit f)) → ((r : ℕ) → getD old r 0 ≡ wordOf (map g (heldOr [] (d .holds) r)))
-      → (r : ℕ) → getD (set old s v) r 0 ≡ wordOf (map g (heldOr [] (d .holds ++ one s (bitsIn trit f) ∷ []) r))
-  word-more g old v l e p r = go (eqb s r) refl ∙ ap (λ (ts : List Trit). wordOf (map g ts)) (sym (start-more [] (d .holds) s (bitsIn trit f) r))
+  word-more : (g : Trit → Bool) (old : List ℕ) (v : ℕ) → s < length old → v ≡ wordOfBits (map g (bitsIn trit f)) → ((r : ℕ) → getD old r 0 ≡ wordOfBits (map g (heldOr [] (d .holds) r)))
+      → (r : ℕ) → getD (set old s v) r 0 ≡ wordOfBits (map g (heldOr [] (d .holds ++ one s (bitsIn trit f) ∷ []) r))
+  word-more g old v l e p r = go (eqb s r) refl ∙ ap (λ (ts : List Trit). wordOfBits (map g ts)) (sym (start-more [] (d .holds) s (bitsIn trit f) r))
     where
-      go : (b : Bool) → eqb s r ≡ b → getD (set old s v) r 0 ≡ wordOf (map g (heldOr (cond b (bitsIn trit f) []) (d .holds) r))
+      go : (b : Bool) → eqb s r ≡ b → getD (set old s v) r 0 ≡ wordOfBits (map g (heldOr (cond b (bitsIn trit f) []) (d .holds) r))
       go true q = rw (← (eqb-true s r q), getD-set-same old s v 0 l, not-held (bitsIn trit f) (d .holds) s fresh) e
       go false q = rw (getD-set-other old s r v 0 (λ z. eqb-false s r q (sym z))) (p r)
 
@@ -183,7 +183,7 @@ module _ {a : Arrays} {t : Summary} {d : Draft} {n : ℕ} (w : Represents a t d 
     steering-small = w .steering-small;
     held-is = flags;
     start-is = start;
-    bits-are = word-more isOne (a .bits) (wordFrom byteBit 0 f) (omega (arith, w .sized .bit-words)) (bits-word-of f (bitsIn trit f) (bits-are trit f form)) (w .bits-are);
+    bits-are = word-more isSet (a .bits) (wordFrom byteBit 0 f) (omega (arith, w .sized .bit-words)) (bits-word-of f (bitsIn trit f) (bits-are trit f form)) (w .bits-are);
     known-are = word-more isKnown (a .known) (wordFrom byteKnown 0 f) (omega (arith, w .sized .known-words)) (known-word-of f (bitsIn trit f) (bits-are trit f form)) (w .known-are);
     sound = sound-hold d (withHold d s (bitsIn trit f)) n s (bitsIn trit f) (w .sound) is;
   }

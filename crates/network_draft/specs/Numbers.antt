@@ -7,7 +7,7 @@ use Prim.Native.Nat.{ℕ, _<_}
 use lib.ListN.{length, getD}
 use Rattle.model.specs.Network.{Node, segment, multiplexer, Target, read, write, at, noNode}
 use Rattle.model.specs.NetworkText.{targetSegment}
-use Rattle.network_words.specs.Words.{wordOf}
+use Rattle.network_words.specs.Words.{wordOfBits}
 use Rattle.network_path.specs.Layout.{fieldAt}
 use Rattle.network_draft.specs.declared.store.Summary.{Summary}
 
@@ -33,7 +33,7 @@ targetFlag (write s bs) = 1
 
 abbrev pub targetWord : Target → ℕ
 targetWord (read s) = 0
-targetWord (write s bs) = wordOf bs
+targetWord (write s bs) = wordOfBits bs
 
 pub record TargetStored (segment flag word : ℕ) (x : Target) : Type 0 where
   pub segment-is : segment ≡ targetSegment x

@@ -16,12 +16,12 @@ use Rattle.model.specs.Text.{Bytes, bind, inFirst, parts, fields, decimal, Word
 use Rattle.model.specs.Network.{segment, multiplexer, tabulate}
 use Rattle.model.specs.NetworkText.{Line, node, hold, field, kind, decimals, segLine, muxLine, numberLine, bitsLine, lineBy, lineOf, isSome}
 use Rattle.model.proofs.Lists.{zero-at, getD-tabulate}
-use Rattle.text.specs.Numbers.{numberOf, IsDecimal}
+use Rattle.text.specs.Numbers.{decimalOf, IsDecimal}
 use Rattle.text.specs.Bits.{bitsForm}
 use Rattle.text.specs.Places.{FieldAt}
 use Rattle.text.specs.declared.Number.{Number}
 use Rattle.text.proofs.Bits.{is-some, is-none, field-from}
-use Rattle.network_line.specs.Line.{kindFor, AreDecimals, bitsIn, IsEntry, plainLine, IsParsed, IsLine}
+use Rattle.network_line.specs.Line.{kindFor, AreDecimals, bitsIn, IsEntry, plainLine, IsParsed, IsParsedLine}
 use Rattle.network_line.specs.declared.NodeData.the-variants.{Segment, Multiplexer}
 use Rattle.network_line.specs.declared.Entry.{Entry}
 use Rattle.network_line.specs.declared.Entry.the-variants.{Wrong, Node as NodeEntry, Out as OutEntry, Hold as HoldEntry, Write as WriteEntry, Read as ReadEntry}
@@ -43,8 +43,8 @@ parts-some sep (b ∷ t) = go (eqb b sep) (parts sep t)
     go false [] = omega arith
     go false (p ∷ ps) = omega arith
 
-pub read-as : {f : Bytes} {r x : Number} → IsDecimal f r → r ≡ x → decimal f ≡ numberOf x
-read-as d e = sym (d .value) ∙ ap numberOf e
+pub read-as : {f : Bytes} {r x : Number} → IsDecimal f r → r ≡ x → decimal f ≡ decimalOf x
+read-as d e = sym (d .value) ∙ ap decimalOf e
 
 pub wrong : {f : Bytes} {o : Option Line} → none ≡ o → IsEntry f o Wrong
 wrong e = record { means = e; good = tt }
@@ -273,6 +273,6 @@ bits-at l starts o e p i =
     }
 
 pub word-line : (l : Bytes) (w : Option Word) (r : ParsedLine) → wordOf (field (fields l) 0) ≡ w → IsParsed l (bind w (lineBy (fields l))) r
-    → IsLine l r
+    → IsParsedLine l r
 unfolding lineOf
 word-line l w r e i = rw e i

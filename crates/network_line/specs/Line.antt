@@ -96,5 +96,5 @@ pub record IsParsed (l : Bytes) (o : Option Line) (r : ParsedLine) : Type 0 wher
   pub means : entryMeans (bytesAt l (r .start) (r .end)) (r .entry) ≡ o
   pub good : GoodEntry (bytesAt l (r .start) (r .end)) (r .entry)
 
-abbrev pub IsLine : Bytes → ParsedLine → Type 0
-IsLine l r = IsParsed l (lineOf l) r
+abbrev pub IsParsedLine : Bytes → ParsedLine → Type 0
+IsParsedLine l r = IsParsed l (lineOf l) r

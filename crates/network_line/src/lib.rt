@@ -12,7 +12,7 @@ ghost use Rattle.model.specs.Text.{fields, Seg, Mux, Out, Hold, Write, Read};
 ghost use Rattle.model.specs.NetworkText.{field, kind, lineBy};
 ghost use Rattle.text.specs.Numbers.{IsDecimal};
 ghost use Rattle.text.specs.Places.{FieldStarts};
-ghost use Rattle.network_line.specs.Line.{kindFor, Placed, AreDecimals, IsEntry, plainLine, IsParsed, IsLine};
+ghost use Rattle.network_line.specs.Line.{kindFor, Placed, AreDecimals, IsEntry, plainLine, IsParsed, IsParsedLine};
 
 // A node is a segment or a multiplexer, and each kind has its own fields. An input that a multiplexer lacks is 0.
 pub enum NodeData {
@@ -218,7 +218,7 @@ fn bits_line(line: &[u8], starts: &[usize; 8], count: usize, unknown: bool) -> P
 
 // What a line says. `csu` stands in plans only.
 pub fn parse(line: &[u8]) -> ParsedLine
-    ensures { λ r. ⌜ IsLine (now (line .entry)) r ⌝ }
+    ensures { λ r. ⌜ IsParsedLine (now (line .entry)) r ⌝ }
 {
     let f = text::split(line);
     let w = text::word_of(text::field(line, &f.starts, 0));

@@ -15,7 +15,7 @@ use Rattle.model.specs.Network.{lenOf}
 use Rattle.model.specs.Path.{ScanPath, on, share, loads, csu, pathLength}
 use Rattle.model.specs.Text.{Trit}
 use Rattle.model.proofs.Lists.{eqb-is, take-map, drop-map, tabulate-cong, mapFrom-tabulate}
-use Rattle.network_words.specs.Words.{wordWidth, allKnown, tritsOf, byteBit, wordOf}
+use Rattle.network_words.specs.Words.{wordWidth, allKnown, tritsOf, byteBit, wordOfBits}
 use Rattle.network_path.specs.Layout.{nodeAt, configOf, segmentAt, scanPath, Way}
 use Rattle.network_path.specs.Answers.{ConfigSized, Loadable, Loads}
 use Rattle.network_path.proofs.PathLaws.{SegmentOn}
@@ -72,7 +72,7 @@ module _ (ns way : List ℕ) (n : ℕ) (scan bits₀ known₀ : List ℕ) (i p :
   abbrev rest : ScanPath
   rest = scanPath ns (drop (i + 1) (take n way))
 
-  module _ (w : ℕ) (word : w ≡ wordOf (map byteBit (partOf scan p len))) where
+  module _ (w : ℕ) (word : w ≡ wordOfBits (map byteBit (partOf scan p len))) where
     abbrev bits′ : List ℕ
     bits′ = set bits k w
 

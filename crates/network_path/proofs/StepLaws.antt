@@ -14,7 +14,7 @@ use Rattle.model.specs.Path.{bitValue, valueOf, pick}
 use Rattle.model.proofs.Lists.{length-tabulate}
 use Rattle.network_words.specs.Words.{wordBit}
 use Rattle.network_path.specs.Layout.{fieldAt, inputsAt, nodeAt, lookIn}
-use Rattle.network_path.specs.Answers.{addressIn, stepTo, stepOf}
+use Rattle.network_path.specs.Answers.{addressOfWords, stepTo, stepOf}
 use Rattle.network_path.specs.declared.walk.Step.{Step}
 use Rattle.network_path.specs.declared.walk.Step.the-variants.{Segment, Input, Stop}
 use Rattle.network_path.proofs.NodeLaws.{getElem-tabulate, getElem-beyond, segment-at, mux-at}
@@ -35,23 +35,23 @@ two-bits false false v x = refl
 
 module _ (bits known b inputs marks : ℕ) where
   module _ (few : inputs ≤ 2) (is : marks ≡ bitValue (wordBit known b)) where
-    address-one : addressIn bits known b inputs ≡ cond (eqb marks 0) none (some (bitValue (wordBit bits b)))
+    address-one : addressOfWords bits known b inputs ≡ cond (eqb marks 0) none (some (bitValue (wordBit bits b)))
     address-one = rw (le-leb inputs 2 few, is) (one-bit (wordBit known b) (wordBit bits b))
 
-    pub unknown-one : marks ≡ 0 → none ≡ addressIn bits known b inputs
+    pub unknown-one : marks ≡ 0 → none ≡ addressOfWords bits known b inputs
     unknown-one z = sym (address-one ∙ rw (eq-eqb marks 0 z))
 
-    pub known-one : (marks ≡ 0 → ⊥) → (r : ℕ) → r ≡ bitValue (wordBit bits b) → some r ≡ addressIn bits known b inputs
+    pub known-one : (marks ≡ 0 → ⊥) → (r : ℕ) → r ≡ bitValue (wordBit bits b) → some r ≡ addressOfWords bits known b inputs
     known-one z r e = ap some e ∙ sym (address-one ∙ rw (ne-eqb marks 0 z))
 
   module _ (many : 2 < inputs) (is : marks ≡ bitValue (wordBit known b) + 2 * bitValue (wordBit known (suc b))) where
-    address-two : addressIn bits known b inputs ≡ cond (ltb marks 3) none (some (bitValue (wordBit bits b) + 2 * bitValue (wordBit bits (suc b))))
+    address-two : addressOfWords bits known b inputs ≡ cond (ltb marks 3) none (some (bitValue (wordBit bits b) + 2 * bitValue (wordBit bits (suc b))))
     address-two = rw (lt-leb inputs 2 many, is) (two-bits (wordBit known b) (wordBit known (suc b)) (wordBit bits b) (wordBit bits (suc b)))
 
-    pub unknown-two : marks < 3 → none ≡ addressIn bits known b inputs
+    pub unknown-two : marks < 3 → none ≡ addressOfWords bits known b inputs
     unknown-two z = sym (address-two ∙ rw (lt-ltb marks 3 z))
 
-    pub known-two : 3 ≤ marks → (r : ℕ) → r ≡ bitValue (wordBit bits b) + 2 * bitValue (wordBit bits (suc b)) → some r ≡ addressIn bits known b inputs
+    pub known-two : 3 ≤ marks → (r : ℕ) → r ≡ bitValue (wordBit bits b) + 2 * bitValue (wordBit bits (suc b)) → some r ≡ addressOfWords bits known b inputs
     known-two z r e = ap some e ∙ sym (address-two ∙ rw (le-ltb marks 3 z))
 
 -- ---- the step
@@ -66,9 +66,9 @@ pub record MuxStep (ns : List ℕ) (k kind : ℕ) (o : Option ℕ) (x : Step) : 
 
 -- o is the address in the words of its SEG at its BIT
 pub step-mux : (ns bits known : List ℕ) (k kind : ℕ) → kind ≡ fieldAt ns k 0 → 2 ≤ kind → (s b : ℕ) → s ≡ fieldAt ns k 1 → b ≡ fieldAt ns k 2
-    → (o : Option ℕ) → o ≡ addressIn (getD bits s 0) (getD known s 0) b kind → MuxStep ns k kind o (stepOf (lookIn bits known) (nodeAt ns k))
+    → (o : Option ℕ) → o ≡ addressOfWords (getD bits s 0) (getD known s 0) b kind → MuxStep ns k kind o (stepOf (lookIn bits known) (nodeAt ns k))
 step-mux ns bits known k kind is mux s b seg bit o e =
-    let words : ℕ → ℕ → ℕ → Option ℕ = λ m j n. addressIn (getD bits m 0) (getD known m 0) j n in
+    let words : ℕ → ℕ → ℕ → Option ℕ = λ m j n. addressOfWords (getD bits m 0) (getD known m 0) j n in
     let n = length (inputsAt ns k) in
     let many : kind ≡ n = is ∙ sym (length-tabulate (λ i. fieldAt ns k (4 + i)) 0 (fieldAt ns k 0)) in
     record {

@@ -30,8 +30,8 @@ addressed (AtInput i) = some i
 addressed Unknown = none
 
 -- the address in a segment's two words: the model's `address`, by the count of inputs
-abbrev pub addressIn : ℕ → ℕ → ℕ → ℕ → Option ℕ
-addressIn bits known b inputs =
+abbrev pub addressOfWords : ℕ → ℕ → ℕ → ℕ → Option ℕ
+addressOfWords bits known b inputs =
     cond (leb inputs 2) (valueOf (tritAt bits known b) (some false)) (valueOf (tritAt bits known b) (tritAt bits known (suc b)))
 
 abbrev pub stepTo : Option ℕ → Step

@@ -10,7 +10,7 @@ ghost use Prim.Native.Nat.{_+_, _<_, _≤_};
 ghost use Rattle.model.specs.Limits.{maxNodes};
 ghost use Rattle.network_words.specs.Words.{wordWidth};
 ghost use Rattle.network_path.specs.Layout.{nodeAt, lookIn, SafeNode};
-ghost use Rattle.network_path.specs.Answers.{addressed, addressIn, stepOf, Walkable, walkedBy, Walks, FindsPath};
+ghost use Rattle.network_path.specs.Answers.{addressed, addressOfWords, stepOf, Walkable, walkedBy, Walks, FindsPath};
 
 // The address of a multiplexer, as far as it is known.
 pub enum Address {
@@ -21,7 +21,7 @@ pub enum Address {
 // The address that a segment's two words hold at a bit, for a multiplexer with so many inputs.
 pub fn address_of(bits: Word, known: Word, bit: usize, inputs: usize) -> Address
     requires { ⌜ bit < wordWidth ⌝ }
-    ensures { λ r. ⌜ addressed r ≡ addressIn bits known bit inputs ⌝ }
+    ensures { λ r. ⌜ addressed r ≡ addressOfWords bits known bit inputs ⌝ }
 {
     if inputs <= 2 {
         if network_words::bit_at(known, bit) == 0 {

@@ -16,7 +16,7 @@ use Rattle.network_line.specs.declared.Entry.{Entry}
 use Rattle.network_line.specs.declared.ParsedLine.{ParsedLine}
 use Rattle.network_draft.specs.declared.add.Refusal.{Refusal}
 use Rattle.network_draft.specs.declared.add.Refusal.the-variants.{Nothing, Refused}
-use Rattle.network_line.specs.Line.{bytesAt, entryMeans, GoodEntry, IsLine}
+use Rattle.network_line.specs.Line.{bytesAt, entryMeans, GoodEntry, IsParsedLine}
 use Rattle.network_draft.specs.declared.store.Summary.{Summary}
 use Rattle.network_draft.specs.declared.add.Added.{Added}
 use Rattle.network_reader.specs.declared.reader.Lines.{Lines}
@@ -25,7 +25,7 @@ use Rattle.network_reader.specs.Reads.{LineAdded, LinesAre, LinesRead}
 
 -- ---- a parsed line
 
-module _ (l : Bytes) (p : ParsedLine) (is : IsLine l p) (e : Entry) (q : p .entry ≡ e) where
+module _ (l : Bytes) (p : ParsedLine) (is : IsParsedLine l p) (e : Entry) (q : p .entry ≡ e) where
   pub line-is : lineOf l ≡ entryMeans (bytesAt l (p .start) (p .end)) e
   line-is = sym (is .means) ∙ ap (entryMeans (bytesAt l (p .start) (p .end))) q
 

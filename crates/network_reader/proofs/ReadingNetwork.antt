@@ -16,7 +16,7 @@ use Rattle.model.specs.Path.{Walk, walk, pathOf, pathIn, pathLength}
 use Rattle.model.specs.NetworkText.{Draft, hasOut, noLines, isHeld, networkOf, ifStarts, finish, readLines, readNetwork}
 use Rattle.model.proofs.Accepted.{draft-formed}
 use Rattle.model.proofs.Reading.{sound-start}
-use Rattle.network_words.specs.Words.{wordWidth, wordBit, wordOf}
+use Rattle.network_words.specs.Words.{wordWidth, wordBit, wordOfBits}
 use Rattle.network_path.specs.Layout.{nodesOf, configOf, scanPath}
 use Rattle.network_path.specs.Answers.{FindsPath, Walkable, told}
 use Rattle.network_path.specs.declared.walk.Walked.{Walked}
@@ -50,7 +50,7 @@ no-numbers zero i = sym (zero-at 8 i)
 no-numbers (suc k) i = sym (zero-at 8 i)
 
 pub represents-none : Represents (arrays (replicate 1032 0) (replicate 129 0) (replicate 129 0) (replicate 129 0) (replicate 129 0)) emptySummary noLines 1
-unfolding totalBits steers isHeld heldOr wordOf
+unfolding totalBits steers isHeld heldOr wordOfBits
 represents-none = record {
   sized = record {
     nodes = length-replicate {A = ℕ} 1032 0;

@@ -16,7 +16,7 @@ use Rattle.model.specs.Network.{Node, at, noNode, lenOf, isSteering, Held, held
 use Rattle.model.specs.NetworkText.{Draft, hasOut, isSome, isHeld}
 use Rattle.model.specs.Drafted.{HoldsFit, Stage, no-out, behind-out}
 use Rattle.model.proofs.Lists.{true-false, length-tabulate}
-use Rattle.network_words.specs.Words.{wordOf, tritsOf, bitsWord, knownWord}
+use Rattle.network_words.specs.Words.{wordOfBits, tritsOf, bitsWord, knownWord}
 use Rattle.network_path.specs.Layout.{nodeAt, configOf}
 use Rattle.network_path.proofs.ConfigLaws.{config-row}
 use Rattle.network_draft.specs.declared.store.Summary.{Summary}
@@ -30,13 +30,13 @@ use Rattle.network_reader.proofs.Starting.{start-row}
 -- ---- start bits without a `hold` line
 
 free-bits : (len : ℕ) (b : Bool) → bitsWord (replicate len (startBit b)) ≡ 0
-unfolding wordOf
+unfolding wordOfBits
 free-bits zero b = refl
 free-bits (suc len) true = omega (arith, free-bits len true)
 free-bits (suc len) false = omega (arith, free-bits len false)
 
 free-known : (len : ℕ) (b : Bool) → knownWord (replicate len (startBit b)) ≡ cond b (2 ^ len - 1) 0
-unfolding wordOf
+unfolding wordOfBits
 free-known zero true = refl
 free-known zero false = refl
 free-known (suc len) true = omega (arith, free-known len true, pow-suc 2 len, pow-pos len)

@@ -17,7 +17,7 @@ use Rattle.model.specs.Network.{tabulate}
 use Rattle.model.specs.Path.{bitValue}
 use Rattle.model.specs.Text.{Trit, bind, bit, trit, bitsFrom}
 use Rattle.model.proofs.Lists.{none-some, some-same, eqb-is}
-use Rattle.network_words.specs.Words.{tritAt, tritsOf, wordOf, isOne, isKnown, bitsWord, knownWord, byteBit, wordFrom, byteKnown}
+use Rattle.network_words.specs.Words.{tritAt, tritsOf, wordOfBits, isSet, isKnown, bitsWord, knownWord, byteBit, wordFrom, byteKnown}
 use Rattle.network_words.proofs.WordLaws.{value-small, low-bit, higher-bit, tabulate-front}
 
 -- ---- the loop: i bytes are in the word w, and the other bytes give the whole
@@ -118,15 +118,15 @@ module _ {A : Type 0} (read : ℕ → Option A) (test : ℕ → Bool) (value : L
       go (some v) p q r = rw (step b v above p) at (r v q)
 
 -- the word of a write target
-pub word-of-bits : (f : List ℕ) (bs : List Bool) → bitsFrom bit [] f ≡ some bs → wordFrom byteBit 0 f ≡ wordOf bs
-unfolding wordOf
-word-of-bits f bs e = word-read bit byteBit wordOf (λ b v vs p. rw (bit-read b v p)) f [] bs e
+pub word-of-bits : (f : List ℕ) (bs : List Bool) → bitsFrom bit [] f ≡ some bs → wordFrom byteBit 0 f ≡ wordOfBits bs
+unfolding wordOfBits
+word-of-bits f bs e = word-read bit byteBit wordOfBits (λ b v vs p. rw (bit-read b v p)) f [] bs e
 
 -- the two words of start bits
-one-read : (b : ℕ) (v : Trit) → trit b ≡ some v → byteBit b ≡ isOne v
-one-read b v e = go (eqb b 88) refl ∙ ap isOne (trit-read b v e)
+one-read : (b : ℕ) (v : Trit) → trit b ≡ some v → byteBit b ≡ isSet v
+one-read b v e = go (eqb b 88) refl ∙ ap isSet (trit-read b v e)
   where
-    go : (x : Bool) → eqb b 88 ≡ x → byteBit b ≡ isOne (cond (not x) (some (byteBit b)) none)
+    go : (x : Bool) → eqb b 88 ≡ x → byteBit b ≡ isSet (cond (not x) (some (byteBit b)) none)
     go true p = let n : b ≡ 88 = eqb-is b 88 p in ne-eqb b 49 (λ z. omega arith)
     go false p = refl
 
@@ -139,9 +139,9 @@ known-read b v e = go (byteKnown b) ∙ ap isKnown (trit-read b v e)
 
 module _ (f : List ℕ) (ts : List Trit) (e : bitsFrom trit [] f ≡ some ts) where
   pub bits-word-of : wordFrom byteBit 0 f ≡ bitsWord ts
-  unfolding wordOf
+  unfolding wordOfBits
   bits-word-of = word-read trit byteBit bitsWord (λ b v vs p. rw (one-read b v p)) f [] ts e
 
   pub known-word-of : wordFrom byteKnown 0 f ≡ knownWord ts
-  unfolding wordOf
+  unfolding wordOfBits
   known-word-of = word-read trit byteKnown knownWord (λ b v vs p. rw (known-read b v p)) f [] ts e

@@ -18,7 +18,7 @@ use lib.Seq.{take-suc, length-take-le, take-all}
 use Rattle.model.specs.Network.{tabulate}
 use Rattle.model.specs.Path.{bitValue}
 use Rattle.model.proofs.Lists.{tabulate-cong}
-use Rattle.network_words.specs.Words.{wordBit, tritAt, tritsOf, byteBit, wordOf, shiftIn}
+use Rattle.network_words.specs.Words.{wordBit, tritAt, tritsOf, byteBit, wordOfBits, shiftIn}
 
 -- ---- bits as numbers
 
@@ -84,8 +84,8 @@ module _ (len : ℕ) (least : 1 ≤ len) where
 -- ---- the bits of a list, shifted in one after the other
 
 -- one bit more at the top
-wordOf-snoc : (bs : List Bool) (b : Bool) → wordOf (bs ++ (b ∷ [])) ≡ wordOf bs + bitValue b * 2 ^ length bs
-unfolding wordOf
+wordOf-snoc : (bs : List Bool) (b : Bool) → wordOfBits (bs ++ (b ∷ [])) ≡ wordOfBits bs + bitValue b * 2 ^ length bs
+unfolding wordOfBits
 wordOf-snoc [] b = omega arith
 wordOf-snoc (c ∷ bs) b =
     let i = wordOf-snoc bs b in
@@ -95,23 +95,23 @@ wordOf-snoc (c ∷ bs) b =
 
 -- what i places make of a word of len bits that held 0: the first i bits at the top
 abbrev pub Shifted : ℕ → ℕ → List Bool → ℕ → Type 0
-Shifted len w bs i = w ≡ wordOf (take i bs) * 2 ^ (len - i)
+Shifted len w bs i = w ≡ wordOfBits (take i bs) * 2 ^ (len - i)
 
 pub shifted-none : (len : ℕ) (bs : List Bool) → Shifted len 0 bs 0
-unfolding wordOf
+unfolding wordOfBits
 shifted-none len bs = omega arith
 
 shifted-more : (len w i : ℕ) (bs : List Bool) → i < len → i < length bs → Shifted len w bs i → Shifted len (shiftIn len w (bitValue (getD bs i false))) bs (i + 1)
 shifted-more len w i bs hl hb p =
     let b = bitValue (getD bs i false) in
-    let n = wordOf (take i bs) in
+    let n = wordOfBits (take i bs) in
     let k = len - (i + 1) in
-    let first : wordOf (take (i + 1) bs) ≡ n + b * 2 ^ i =
+    let first : wordOfBits (take (i + 1) bs) ≡ n + b * 2 ^ i =
     rw (add-one i, take-suc bs i false hb) (wordOf-snoc (take i bs) (getD bs i false) ∙ ap (λ (m : ℕ). n + b * 2 ^ m) (length-take-le i bs (omega arith))) in
     let half : w / 2 ≡ n * 2 ^ k = ap (λ (m : ℕ). m / 2) (p ∙ ap (λ (m : ℕ). n * 2 ^ m) (omega arith)) ∙ shifted-half n k in
     let top : b * 2 ^ (len - 1) ≡ b * 2 ^ i * 2 ^ k =
     ap (λ (m : ℕ). b * m) (ap (λ (m : ℕ). 2 ^ m) (omega arith) ∙ pow-add 2 i k) ∙ sym (mul-assoc b (2 ^ i) (2 ^ k)) in
-    let all : wordOf (take (i + 1) bs) * 2 ^ k ≡ n * 2 ^ k + b * 2 ^ i * 2 ^ k = ap (λ (m : ℕ). m * 2 ^ k) first ∙ add-mul n (b * 2 ^ i) (2 ^ k) in
+    let all : wordOfBits (take (i + 1) bs) * 2 ^ k ≡ n * 2 ^ k + b * 2 ^ i * 2 ^ k = ap (λ (m : ℕ). m * 2 ^ k) first ∙ add-mul n (b * 2 ^ i) (2 ^ k) in
     omega arith
 
 -- one byte of a text of bits more
@@ -122,9 +122,9 @@ shifted-byte len w i r b part hp hi e q p =
     q ∙ ap (shiftIn len w) (e ∙ ap bitValue (sym (List·getD-map byteBit part i 0)))
     ∙ shifted-more len w i bs hi (omega (arith, length-map part byteBit)) p
 
-pub shifted-all : (len w : ℕ) (bs : List Bool) → length bs ≡ len → Shifted len w bs len → w ≡ wordOf bs
+pub shifted-all : (len w : ℕ) (bs : List Bool) → length bs ≡ len → Shifted len w bs len → w ≡ wordOfBits bs
 shifted-all len w bs h p =
-    p ∙ ap (λ (m : ℕ). wordOf (take len bs) * 2 ^ m) (sub-self len) ∙ omega arith ∙ ap wordOf (take-all len bs (omega arith))
+    p ∙ ap (λ (m : ℕ). wordOfBits (take len bs) * 2 ^ m) (sub-self len) ∙ omega arith ∙ ap wordOfBits (take-all len bs (omega arith))
 
 -- ---- the bits of a word
 
@@ -146,11 +146,11 @@ tabulate-next f g i (suc n) e = rw (e i, tabulate-next f g (suc i) n e)
 pub tabulate-front : {A : Type 0} (f g : ℕ → A) (a : A) (n : ℕ) → f 0 ≡ a → ((j : ℕ) → f (suc j) ≡ g j) → tabulate f 0 (suc n) ≡ a ∷ tabulate g 0 n
 tabulate-front f g a n h e = rw (h, tabulate-next f g 0 n e)
 
-pub word-bits : (bs : List Bool) → tabulate (wordBit (wordOf bs)) 0 (length bs) ≡ bs
-unfolding wordOf
+pub word-bits : (bs : List Bool) → tabulate (wordBit (wordOfBits bs)) 0 (length bs) ≡ bs
+unfolding wordOfBits
 word-bits [] = refl
 word-bits (b ∷ bs) =
-    tabulate-front (wordBit (bitValue b + 2 * wordOf bs)) (wordBit (wordOf bs)) b (length bs) (low-bit b (wordOf bs)) (higher-bit b (wordOf bs)) ∙ ap (λ (l : List Bool). b ∷ l) (word-bits bs)
+    tabulate-front (wordBit (bitValue b + 2 * wordOfBits bs)) (wordBit (wordOfBits bs)) b (length bs) (low-bit b (wordOfBits bs)) (higher-bit b (wordOfBits bs)) ∙ ap (λ (l : List Bool). b ∷ l) (word-bits bs)
 
 -- ---- a word with all bits known
 
@@ -174,11 +174,11 @@ trits-known width len w h =
     ∙ map-tabulate some (wordBit w) 0 len
 
 -- a part of the scan-in bits loaded: all of them known, in their order
-pub trits-loaded : (width len : ℕ) (part : List ℕ) → length part ≡ len → len ≤ width → tritsOf len (wordOf (map byteBit part)) (2 ^ width - 1) ≡ map some (map byteBit part)
+pub trits-loaded : (width len : ℕ) (part : List ℕ) → length part ≡ len → len ≤ width → tritsOf len (wordOfBits (map byteBit part)) (2 ^ width - 1) ≡ map some (map byteBit part)
 trits-loaded width len part e h =
     let bs = map byteBit part in
     let long : length bs ≡ len = length-map part byteBit ∙ e in
-    trits-known width len (wordOf bs) h ∙ ap (λ (n : ℕ). map some (tabulate (wordBit (wordOf bs)) 0 n)) (sym long) ∙ ap (map some) (word-bits bs)
+    trits-known width len (wordOfBits bs) h ∙ ap (λ (n : ℕ). map some (tabulate (wordBit (wordOfBits bs)) 0 n)) (sym long) ∙ ap (map some) (word-bits bs)
 
 -- ---- start bits: all 0, and all unknown
 

@@ -28,13 +28,13 @@ abbrev pub tritsOf : ℕ → ℕ → ℕ → List Trit
 tritsOf len bits known = tabulate (tritAt bits known) 0 len
 
 -- the word whose bit j is the j-th of these bits
-unfoldable pub wordOf : List Bool → ℕ
-wordOf [] = 0
-wordOf (b ∷ bs) = bitValue b + 2 * wordOf bs
+unfoldable pub wordOfBits : List Bool → ℕ
+wordOfBits [] = 0
+wordOfBits (b ∷ bs) = bitValue b + 2 * wordOfBits bs
 
-abbrev pub isOne : Trit → Bool
-isOne none = false
-isOne (some b) = b
+abbrev pub isSet : Trit → Bool
+isSet none = false
+isSet (some b) = b
 
 abbrev pub isKnown : Trit → Bool
 isKnown none = false
@@ -42,10 +42,10 @@ isKnown (some b) = true
 
 -- the two words of these bits; an unknown bit is 0 in both
 abbrev pub bitsWord : List Trit → ℕ
-bitsWord ts = wordOf (map isOne ts)
+bitsWord ts = wordOfBits (map isSet ts)
 
 abbrev pub knownWord : List Trit → ℕ
-knownWord ts = wordOf (map isKnown ts)
+knownWord ts = wordOfBits (map isKnown ts)
 
 -- ---- words of texts
 

@@ -4,7 +4,7 @@ ghost use mathlib.Core.List.{map};
 ghost use Prim.Native.Nat.{suc, _+_, _-_, _*_, _^_, _<_, _≤_};
 ghost use lib.ListN.{length};
 ghost use Rattle.model.specs.Path.{bitValue};
-ghost use Rattle.network_words.specs.Words.{wordWidth, wordBit, byteBit, shiftIn, wordOf, wordFrom, byteKnown};
+ghost use Rattle.network_words.specs.Words.{wordWidth, wordBit, byteBit, shiftIn, wordOfBits, wordFrom, byteKnown};
 
 // A word of a segment's bits, or of their known marks.
 pub type Word = u32;
@@ -73,7 +73,7 @@ fn bit_of(b: u8) -> Word
 // The word after the bits of part are shifted in, one place each: bit j is the j-th bit of part.
 pub fn loaded(part: &[u8], len: usize) -> Word
     requires { ⌜ (length (now part) ≡ len) × (len ≤ wordWidth) ⌝ }
-    ensures { λ r. ⌜ r ≡ wordOf (map byteBit (now (part .entry))) ⌝ }
+    ensures { λ r. ⌜ r ≡ wordOfBits (map byteBit (now (part .entry))) ⌝ }
 {
     let mut w: Word = 0;
     let mut i: usize = 0;

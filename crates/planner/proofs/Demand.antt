@@ -10,7 +10,7 @@ use Rattle.model.specs.PlanText.{readPlan}
 use Rattle.model.specs.Mark.{mark}
 use Rattle.model.specs.Calls.{makePlan}
 use Rattle.model.specs.Places.{_or_, Listed, NetworkRefusal, PlannerRefusal}
-use Rattle.model.specs.Demands.{pastCheck12, Planned as ModelPlanned, PlansExactly as ModelExactly}
+use Rattle.model.specs.Demands.{pastCheck12, WrittenPlan as ModelPlanned, ExactPlans as ModelExactly}
 use Rattle.model.proofs.Lists.{not-ok, refusal-number, refusal-place}
 use Rattle.model.proofs.Demands.{plan-buffer, search-space, refusals, planner, limits}
 use Rattle.marker.proofs.Demand.{verdict-pass}

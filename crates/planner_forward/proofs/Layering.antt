@@ -19,7 +19,7 @@ use Rattle.network_words.specs.Words.{wordBit}
 use Rattle.network_words.proofs.WordLaws.{zero-bit}
 use Rattle.network_words.proofs.WordTests.{wordBit-pow}
 use Rattle.planner_theory.specs.Moves.{allOf, count, gain, reached, sysOf}
-use Rattle.planner_theory.specs.Layers.{Earlier, Layers}
+use Rattle.planner_theory.specs.Layers.{MetBy, Layers}
 use Rattle.planner_theory.proofs.Forward.{earlier-same, stepped-same, layers-same, layers-start, layers-next, layers-empty, nothing-up-to}
 use Rattle.planner_theory.proofs.MoveLaws.{gain-within, land-within}
 use Rattle.planner_table.specs.Table.{inSlot, inSeen, layersOf, Others, Known, SlotKnown}
@@ -32,7 +32,7 @@ use Rattle.planner_table.proofs.SlotLaws.{slot-beyond, slot-other}
 pub record Forward (net : Network) (start i : ℕ) (tab seen : List ℕ) : Type 0 where
   pub layers : Layers (sysOf net) start (layersOf start tab) i
   pub goalless : (s : ℕ) → layersOf start tab i s ≡ true → sysOf net .goal s ≡ false
-  pub met : (s : ℕ) → inSeen seen s ≡ true → Earlier (layersOf start tab) i s
+  pub met : (s : ℕ) → inSeen seen s ≡ true → MetBy (layersOf start tab) i s
   pub known : Known net start tab i
   pub empty : (j s : ℕ) → i ≤ j → j < 16 → inSlot tab j s ≡ false
 
@@ -119,11 +119,11 @@ module _ (net : Network) (accepted : Accepted net) (start i : ℕ) (less : i < 1
       omega (arith, a .to-is, land-within net x (a .choice))
 
   -- what has been met is of layer i + 1 or an earlier one
-  met : (s : ℕ) → inSeen seen′ s ≡ true → Earlier (layersOf start tab′) (suc i) s
+  met : (s : ℕ) → inSeen seen′ s ≡ true → MetBy (layersOf start tab′) (suc i) s
   unfolding layersOf
   met s e = by (p .met s e)
     where
-      by : (inSeen seen s ≡ true) ⊎ (inSlot tab′ i s ≡ true) → Earlier (layersOf start tab′) (suc i) s
+      by : (inSeen seen s ≡ true) ⊎ (inSlot tab′ i s ≡ true) → MetBy (layersOf start tab′) (suc i) s
       by (inl q) = let w = earlier-same (layersOf start tab) (layersOf start tab′) i same i s (omega arith) (f .met s q) in record { at = w .at; within = omega (arith, w .within); is = w .is }
       by (inr q) = record { at = suc i; within = omega arith; is = q }
 

@@ -19,14 +19,14 @@ use Rattle.network_words.specs.Words.{wordBit}
 use Rattle.network_words.proofs.WordLaws.{zero-bit}
 use Rattle.plan_text.specs.Writing.{writeAt}
 use Rattle.plan_text.proofs.Writing.{write-none, write-more, write-behind, write-same}
-use Rattle.planner_theory.specs.Choices.{placesOf, bitAt, leftAt, bitsFrom, leftAfter}
+use Rattle.planner_theory.specs.Choices.{placesOf, bitAt, leftAt, choiceBits, leftAfter}
 use Rattle.planner_theory.proofs.Choices.{bits-append, left-append, bits-more, left-more}
 use Rattle.planner_line.specs.Line.{WordsOf, segmentPlaces, BitsPut, ZerosFrom, KeptFrom, SegmentPut}
 
 -- ---- lengths
 
-pub length-bits : (net : Network) (qs : List (ℕ × ℕ)) (h c : ℕ) → length (map bitByte (bitsFrom net qs h c)) ≡ length qs
-unfolding bitsFrom
+pub length-bits : (net : Network) (qs : List (ℕ × ℕ)) (h c : ℕ) → length (map bitByte (choiceBits net qs h c)) ≡ length qs
+unfolding choiceBits
 length-bits net [] h c = refl
 length-bits net (q ∷ qs) h c = ap suc (length-bits net qs (leftAt net q h) c)
 
@@ -48,17 +48,17 @@ places-append (s ∷ p) q = rw (places-append p q) (sym (append-assoc (segmentPl
 
 module _ (net : Network) (at h c : ℕ) (old : List ℕ) where
   pub bits-none : BitsPut net [] at h c old h old
-  unfolding bitsFrom leftAfter
+  unfolding choiceBits leftAfter
   bits-none = record { left = refl; holds = sym (write-none at old) }
 
   module _ (ps : List (ℕ × ℕ)) (left : ℕ) (buf : List ℕ) (put : BitsPut net ps at h c old left buf) where
     pub one-more : (q : ℕ × ℕ) (k v next : ℕ) → length ps ≡ k → at + k < length old → v ≡ bitByte (bitAt net q left c) → next ≡ leftAt net q left
         → BitsPut net (ps ++ q ∷ []) at h c old next (set buf (at + k) v)
     one-more q k v next long fits byte rest =
-        let new = map bitByte (bitsFrom net ps h c) in
+        let new = map bitByte (choiceBits net ps h c) in
         let n : length new ≡ k = length-bits net ps h c ∙ long in
-        let e : map bitByte (bitsFrom net (ps ++ q ∷ []) h c) ≡ new ++ v ∷ [] =
-        ap (map bitByte) (bits-more net ps q h c) ∙ map-append bitByte (bitsFrom net ps h c) (bitAt net q (leftAfter net ps h) c ∷ [])
+        let e : map bitByte (choiceBits net (ps ++ q ∷ []) h c) ≡ new ++ v ∷ [] =
+        ap (map bitByte) (bits-more net ps q h c) ∙ map-append bitByte (choiceBits net ps h c) (bitAt net q (leftAfter net ps h) c ∷ [])
         ∙ ap (λ (x : ℕ). new ++ x ∷ []) (ap (λ (x : ℕ). bitByte (bitAt net q x c)) (sym (put .left)) ∙ sym byte) in
         let m = write-more at new old (omega arith) v in
         record {
@@ -69,12 +69,12 @@ module _ (net : Network) (at h c : ℕ) (old : List ℕ) where
     pub bits-behind : (qs : List (ℕ × ℕ)) (place next : ℕ) (new : List ℕ) → place ≡ at + length ps → place ≤ length old → BitsPut net qs place left c buf next new
         → BitsPut net (ps ++ qs) at h c old next new
     bits-behind qs place next new e fits more =
-        let a = map bitByte (bitsFrom net ps h c) in
-        let b = map bitByte (bitsFrom net qs left c) in
+        let a = map bitByte (choiceBits net ps h c) in
+        let b = map bitByte (choiceBits net qs left c) in
         let n : place ≡ at + length a = omega (arith, length-bits net ps h c) in
-        let both : map bitByte (bitsFrom net (ps ++ qs) h c) ≡ a ++ b =
-        ap (map bitByte) (bits-append net ps qs h c ∙ ap (λ (x : ℕ). bitsFrom net ps h c ++ bitsFrom net qs x c) (sym (put .left)))
-        ∙ map-append bitByte (bitsFrom net ps h c) (bitsFrom net qs left c) in
+        let both : map bitByte (choiceBits net (ps ++ qs) h c) ≡ a ++ b =
+        ap (map bitByte) (bits-append net ps qs h c ∙ ap (λ (x : ℕ). choiceBits net ps h c ++ choiceBits net qs x c) (sym (put .left)))
+        ∙ map-append bitByte (choiceBits net ps h c) (choiceBits net qs left c) in
         record {
           left = more .left ∙ ap (leftAfter net qs) (put .left) ∙ sym (left-append net ps qs h);
           holds = more .holds ∙ rw (put .holds, n, both) (write-behind at a old (omega arith) b);
@@ -120,8 +120,8 @@ module _ (net : Network) (s len : ℕ) (w : WordsOf net s len 0 0) (h c : ℕ) w
   not-wanted : (b : ℕ) → b < len → wanted (net .targets) s b ≡ false
   not-wanted b l = sym (w .wants-are b l) ∙ zero-bit b
 
-  zero-bytes : (n b : ℕ) → b + n ≤ len → map bitByte (bitsFrom net (tabulate (λ i. (s, i)) b n) h c) ≡ replicate n 48
-  unfolding bitsFrom
+  zero-bytes : (n b : ℕ) → b + n ≤ len → map bitByte (choiceBits net (tabulate (λ i. (s, i)) b n) h c) ≡ replicate n 48
+  unfolding choiceBits
   zero-bytes zero b l = refl
   zero-bytes (suc n) b l = rw (not-steering b (omega arith), not-wanted b (omega arith), zero-bytes n (suc b) (omega arith))
 

@@ -16,7 +16,7 @@ use Rattle.network_path.proofs.PathLaws.{SegmentOn, path-end}
 use Rattle.plan_text.specs.Writing.{writeAt}
 use Rattle.plan_text.proofs.Writing.{write-three, write-again, write-at}
 use Rattle.planner_theory.specs.Choices.{placesOf}
-use Rattle.planner_line.specs.Line.{WordsOf, segmentPlaces, BitsPut, ZerosFrom, KeptFrom, SegmentPut, HasRoom, Fills, pathBits, OperationPut, LinePut}
+use Rattle.planner_line.specs.Line.{WordsOf, segmentPlaces, BitsPut, ZerosFrom, KeptFrom, SegmentPut, HasRoom, Fills, operationBits, OperationPut, LinePut}
 use Rattle.planner_line.proofs.PutBits.{length-bits, length-segment, length-places, places-append, bits-none, bits-behind}
 
 -- the places of the first i segments
@@ -91,7 +91,7 @@ module _ {ns steering wants way : List ℕ} {n at h c : ℕ} {old : List ℕ} {i
 
 -- ---- an operation's line: the word before its bits, the bits, the line's end
 
-pub length-operation : (net : Network) (p : ScanPath) (h c : ℕ) → length (pathBits net p h c) ≡ pathLength p
+pub length-operation : (net : Network) (p : ScanPath) (h c : ℕ) → length (operationBits net p h c) ≡ pathLength p
 length-operation net p h c = length-bits net (placesOf p) h c ∙ length-places p
 
 pub operation-room : {ns way : List ℕ} {n : ℕ} {old : List ℕ} (at : ℕ) → HasRoom ns way n (at + 5) old → (place : ℕ) (buf : List ℕ)
@@ -110,6 +110,6 @@ module _ (ns steering wants way : List ℕ) (n at h c : ℕ) (old : List ℕ) (r
   line-put second third m x zeroed y z size a first is zeros b put last net f =
       let l = length-operation net (scanPath ns (take n way)) h c in
       let k : length {A = ℕ} (replicate m 48) ≡ m = length-replicate {A = ℕ} m 48 in
-      let over : y ≡ writeAt second (pathBits net (scanPath ns (take n way)) h c) x =
-      put net f ∙ rw zeros (write-again second (replicate m 48) x (omega (arith, r .room)) (pathBits net (scanPath ns (take n way)) h c) (omega arith)) in
-      write-three at second third (bytes "csu\t") (pathBits net (scanPath ns (take n way)) h c) (lineEnd ∷ []) old (omega (arith, r .room)) a first (omega arith) over last
+      let over : y ≡ writeAt second (operationBits net (scanPath ns (take n way)) h c) x =
+      put net f ∙ rw zeros (write-again second (replicate m 48) x (omega (arith, r .room)) (operationBits net (scanPath ns (take n way)) h c) (omega arith)) in
+      write-three at second third (bytes "csu\t") (operationBits net (scanPath ns (take n way)) h c) (lineEnd ∷ []) old (omega (arith, r .room)) a first (omega arith) over last

@@ -17,7 +17,7 @@ use Rattle.network_path.specs.Answers.{HoldsPath}
 use Rattle.network_draft.specs.declared.store.Summary.{Summary}
 use Rattle.network_draft.specs.Represents.{targetsOf}
 use Rattle.plan_text.specs.Writing.{writeAt, lineText}
-use Rattle.planner_theory.specs.Choices.{placesOf, bitsFrom, leftAfter}
+use Rattle.planner_theory.specs.Choices.{placesOf, choiceBits, leftAfter}
 
 -- ---- a segment
 
@@ -46,7 +46,7 @@ segmentPlaces s len = tabulate (λ b. (s, b)) 0 len
 -- the bits of choice c at these places stand in the buffer from a place on, and r is what they leave of h
 pub record BitsPut (net : Network) (qs : List (ℕ × ℕ)) (at h c : ℕ) (old : List ℕ) (r : ℕ) (new : List ℕ) : Type 0 where
   pub left : r ≡ leftAfter net qs h
-  pub holds : new ≡ writeAt at (map bitByte (bitsFrom net qs h c)) old
+  pub holds : new ≡ writeAt at (map bitByte (choiceBits net qs h c)) old
 
 -- as many `0` stand in the buffer from a place on
 abbrev pub ZerosFrom : List ℕ → ℕ → ℕ → Type 0
@@ -71,15 +71,15 @@ pub record Fills (net : Network) (ns steering wants : List ℕ) : Type 0 where
   pub steering-is : (s b : ℕ) → s ≤ maxNodes → b < wordWidth → wordBit (getD steering s 0) b ≡ steers (net .nodes) s b
   pub wants-are : (s b : ℕ) → s ≤ maxNodes → b < lenOf (nodeAt ns s) → wordBit (getD wants s 0) b ≡ wanted (net .targets) s b
 
-abbrev pub pathBits : Network → ScanPath → ℕ → ℕ → List ℕ
-pathBits net p h c = map bitByte (bitsFrom net (placesOf p) h c)
+abbrev pub operationBits : Network → ScanPath → ℕ → ℕ → List ℕ
+operationBits net p h c = map bitByte (choiceBits net (placesOf p) h c)
 
 abbrev pub OperationPut : List ℕ → List ℕ → List ℕ → List ℕ → ℕ → ℕ → ℕ → ℕ → List ℕ → List ℕ → Type 0
 OperationPut ns steering wants way n at h c old new =
-    (net : Network) → Fills net ns steering wants → new ≡ writeAt at (pathBits net (scanPath ns (take n way)) h c) old
+    (net : Network) → Fills net ns steering wants → new ≡ writeAt at (operationBits net (scanPath ns (take n way)) h c) old
 
 -- ---- its line
 
 abbrev pub LinePut : List ℕ → List ℕ → List ℕ → List ℕ → ℕ → ℕ → ℕ → ℕ → List ℕ → List ℕ → Type 0
 LinePut ns steering wants way n at h c old new =
-    (net : Network) → Fills net ns steering wants → new ≡ writeAt at (lineText (pathBits net (scanPath ns (take n way)) h c)) old
+    (net : Network) → Fills net ns steering wants → new ≡ writeAt at (lineText (operationBits net (scanPath ns (take n way)) h c)) old

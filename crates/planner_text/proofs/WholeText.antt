@@ -22,11 +22,11 @@ use Rattle.plan_text.specs.Writing.{writeAt, lineText}
 use Rattle.plan_text.proofs.Writing.{over-none, plan-behind, line-behind}
 use Rattle.planner_theory.specs.Moves.{count, land, decode, StepOf, Follows}
 use Rattle.planner_theory.specs.Settings.{walkAt}
-use Rattle.planner_theory.specs.Choices.{placesOf, bitsFrom}
+use Rattle.planner_theory.specs.Choices.{placesOf, choiceBits}
 use Rattle.planner_theory.proofs.MoveLaws.{path-short, land-within}
 use Rattle.planner_theory.proofs.Decoded.{decode-bits, bits-length}
 use Rattle.planner_text.specs.Writing.{textLength}
-use Rattle.planner_line.specs.Line.{HasRoom, pathBits}
+use Rattle.planner_line.specs.Line.{HasRoom, operationBits}
 
 -- i choices are passed, x is the setting behind them, and the others can be made from it on
 pub record Passed (net : Network) (cs : List ℕ) (i x : ℕ) : Type 0 where
@@ -79,7 +79,7 @@ module _ {net : Network} {start : ℕ} {cs : List ℕ} {i x : ℕ} (l : length c
 
 -- the bits of choice c in setting x along the path p
 abbrev bitsAlong : Network → ℕ → ScanPath → ℕ → List Bool
-bitsAlong net x p c = bitsFrom net (placesOf p) (count net x) c
+bitsAlong net x p c = choiceBits net (placesOf p) (count net x) c
 
 module _ (net : Network) (a : Accepted net) (cs : List ℕ) (i c : ℕ) (l : i < length cs) (is : c ≡ getD cs i 0) where
   module _ (x : ℕ) (f : Passed net cs i x) where
@@ -128,7 +128,7 @@ module _ (net : Network) (a : Accepted net) (cs : List ℕ) (i c : ℕ) (l : i <
           omega (arith, n, length-append (writePlan (r .done)) (writePlan (decode net x (drop i cs))), r .long, text-splits x (r .passed) p walks)
 
       pub text-more : (h next end : ℕ) (new : List ℕ) → h ≡ count net x → next ≡ land net x c → end ≡ place + (5 + pathLength p) → length new ≡ length buf
-          → new ≡ writeAt place (lineText (pathBits net p h c)) buf → Written net start cs old (i + 1) next end new
+          → new ≡ writeAt place (lineText (operationBits net p h c)) buf → Written net start cs old (i + 1) next end new
       unfolding writePlan
       text-more h next end new choices to behind same put =
           let bs = bitsAlong net x p c in
@@ -139,7 +139,7 @@ module _ (net : Network) (a : Accepted net) (cs : List ℕ) (i c : ℕ) (l : i <
                 ∙ sym (append-assoc (r .done) (bs ∷ []) (decode net (land net x c) (drop (i + 1) cs)));
             long = ap length (plan-behind (r .done) (bs ∷ []))
                 ∙ length-append (writePlan (r .done)) (writePlan (bs ∷ [])) ∙ omega (arith, r .long, length-line bs [], bits-long x (r .passed) p walks);
-            holds = put ∙ ap (λ (k : ℕ). writeAt place (lineText (pathBits net p k c)) buf) choices ∙ ap (writeAt place (lineText (pathBits net p (count net x) c))) (r .holds)
+            holds = put ∙ ap (λ (k : ℕ). writeAt place (lineText (operationBits net p k c)) buf) choices ∙ ap (writeAt place (lineText (operationBits net p (count net x) c))) (r .holds)
                 ∙ line-behind (r .done) bs old place (r .long) (omega (arith, text-room));
             size = same ∙ r .size;
           }

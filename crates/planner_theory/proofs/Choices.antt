@@ -16,7 +16,7 @@ use Rattle.model.specs.Path.{ScanPath, bitValue}
 use Rattle.model.specs.Plan.{wanted}
 use Rattle.model.specs.Planner.{choices, segFillings, fillings}
 use Rattle.planner_theory.specs.Settings.{choiceOf}
-use Rattle.planner_theory.specs.Choices.{placesOf, bitAt, leftAt, bitsFrom, leftAfter}
+use Rattle.planner_theory.specs.Choices.{placesOf, bitAt, leftAt, choiceBits, leftAfter}
 
 -- how many of the places steer
 unfoldable pub steeringCount : List Node → List (ℕ × ℕ) → ℕ
@@ -124,8 +124,8 @@ module _ (net : Network) where
   double-more a w r le = omega (arith, double a w, add-mul (a + a) 1 w)
 
   bits-kept : (qs : List (ℕ × ℕ)) (a r : ℕ) → r < 2 ^ steeringCount (net .nodes) qs
-      → bitsFrom net qs (2 ^ steeringCount (net .nodes) qs) (a * 2 ^ steeringCount (net .nodes) qs + r) ≡ bitsAt net qs r
-  unfolding bitsFrom bitsAt steeringCount
+      → choiceBits net qs (2 ^ steeringCount (net .nodes) qs) (a * 2 ^ steeringCount (net .nodes) qs + r) ≡ bitsAt net qs r
+  unfolding choiceBits bitsAt steeringCount
   bits-kept [] a r lt = refl
   bits-kept (q ∷ qs) a r lt = by (steers (net .nodes) (q .0) (q .1)) lt (λ b k h. bits-kept qs b k h)
     where
@@ -135,8 +135,8 @@ module _ (net : Network) where
       w : Bool
       w = wanted (net .targets) (q .0) (q .1)
 
-      by : (t : Bool) → r < 2 ^ (bitValue t + n) → ((b k : ℕ) → k < 2 ^ n → bitsFrom net qs (2 ^ n) (b * 2 ^ n + k) ≡ bitsAt net qs k)
-          → cond t (eqb ((a * 2 ^ (bitValue t + n) + r) / (2 ^ (bitValue t + n) / 2) % 2) 1) w ∷ bitsFrom net qs (cond t (2 ^ (bitValue t + n) / 2) (2 ^ (bitValue t + n))) (a * 2 ^ (bitValue t + n) + r)
+      by : (t : Bool) → r < 2 ^ (bitValue t + n) → ((b k : ℕ) → k < 2 ^ n → choiceBits net qs (2 ^ n) (b * 2 ^ n + k) ≡ bitsAt net qs k)
+          → cond t (eqb ((a * 2 ^ (bitValue t + n) + r) / (2 ^ (bitValue t + n) / 2) % 2) 1) w ∷ choiceBits net qs (cond t (2 ^ (bitValue t + n) / 2) (2 ^ (bitValue t + n))) (a * 2 ^ (bitValue t + n) + r)
           ≡ cond t (cond (ltb r (2 ^ n)) (false ∷ bitsAt net qs r) (true ∷ bitsAt net qs (r - 2 ^ n))) (w ∷ bitsAt net qs r)
       by false h ih = let z : 0 + n ≡ n = omega arith in rw z (ap (λ (l : List Bool). w ∷ l) (ih a r (rw z at h)))
       by true h ih =
@@ -145,7 +145,7 @@ module _ (net : Network) where
           let less : r < 2 ^ n + 2 ^ n = omega arith in
           rw (z, half) (turn less (decLt r (2 ^ n)))
         where
-          turn : r < 2 ^ n + 2 ^ n → Dec (r < 2 ^ n) → eqb ((a * (2 ^ n + 2 ^ n) + r) / 2 ^ n % 2) 1 ∷ bitsFrom net qs (2 ^ n) (a * (2 ^ n + 2 ^ n) + r)
+          turn : r < 2 ^ n + 2 ^ n → Dec (r < 2 ^ n) → eqb ((a * (2 ^ n + 2 ^ n) + r) / 2 ^ n % 2) 1 ∷ choiceBits net qs (2 ^ n) (a * (2 ^ n + 2 ^ n) + r)
               ≡ cond (ltb r (2 ^ n)) (false ∷ bitsAt net qs r) (true ∷ bitsAt net qs (r - 2 ^ n))
           turn less (yes l) =
               let e : a * (2 ^ n + 2 ^ n) + r ≡ (a + a) * 2 ^ n + r = ap (λ (k : ℕ). k + r) (double a (2 ^ n)) in
@@ -157,12 +157,12 @@ module _ (net : Network) where
               rw (e, le-ltb r (2 ^ n) (omega arith), block-div (a + a + 1) (2 ^ n) (r - 2 ^ n) k, ih (a + a + 1) (r - 2 ^ n) k)
               (ap (λ (b : Bool). b ∷ bitsAt net qs (r - 2 ^ n)) (eq-eqb ((a + a + 1) % 2) 1 (omega arith)))
 
-  pub bits-from : (qs : List (ℕ × ℕ)) (c : ℕ) → c < 2 ^ steeringCount (net .nodes) qs → bitsAt net qs c ≡ bitsFrom net qs (2 ^ steeringCount (net .nodes) qs) c
-  bits-from qs c lt = sym (ap (bitsFrom net qs (2 ^ steeringCount (net .nodes) qs)) (let z : c ≡ 0 * 2 ^ steeringCount (net .nodes) qs + c = omega arith in z) ∙ bits-kept qs 0 c lt)
+  pub bits-from : (qs : List (ℕ × ℕ)) (c : ℕ) → c < 2 ^ steeringCount (net .nodes) qs → bitsAt net qs c ≡ choiceBits net qs (2 ^ steeringCount (net .nodes) qs) c
+  bits-from qs c lt = sym (ap (choiceBits net qs (2 ^ steeringCount (net .nodes) qs)) (let z : c ≡ 0 * 2 ^ steeringCount (net .nodes) qs + c = omega arith in z) ∙ bits-kept qs 0 c lt)
 
   -- the bits of some places, then those of the others
-  pub bits-append : (ps qs : List (ℕ × ℕ)) (h c : ℕ) → bitsFrom net (ps ++ qs) h c ≡ bitsFrom net ps h c ++ bitsFrom net qs (leftAfter net ps h) c
-  unfolding bitsFrom leftAfter
+  pub bits-append : (ps qs : List (ℕ × ℕ)) (h c : ℕ) → choiceBits net (ps ++ qs) h c ≡ choiceBits net ps h c ++ choiceBits net qs (leftAfter net ps h) c
+  unfolding choiceBits leftAfter
   bits-append [] qs h c = refl
   bits-append (q ∷ ps) qs h c = ap (λ (l : List Bool). bitAt net q h c ∷ l) (bits-append ps qs (leftAt net q h) c)
 
@@ -172,8 +172,8 @@ module _ (net : Network) where
   left-append (q ∷ ps) qs h = left-append ps qs (leftAt net q h)
 
   -- one place more
-  pub bits-more : (ps : List (ℕ × ℕ)) (q : ℕ × ℕ) (h c : ℕ) → bitsFrom net (ps ++ q ∷ []) h c ≡ bitsFrom net ps h c ++ bitAt net q (leftAfter net ps h) c ∷ []
-  unfolding bitsFrom
+  pub bits-more : (ps : List (ℕ × ℕ)) (q : ℕ × ℕ) (h c : ℕ) → choiceBits net (ps ++ q ∷ []) h c ≡ choiceBits net ps h c ++ bitAt net q (leftAfter net ps h) c ∷ []
+  unfolding choiceBits
   bits-more ps q h c = bits-append ps (q ∷ []) h c
 
   pub left-more : (ps : List (ℕ × ℕ)) (q : ℕ × ℕ) (h : ℕ) → leftAfter net (ps ++ q ∷ []) h ≡ leftAt net q (leftAfter net ps h)

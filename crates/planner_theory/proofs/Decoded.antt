@@ -16,7 +16,7 @@ use Rattle.model.proofs.Lists.{none-some, some-same}
 use Rattle.planner_theory.specs.Search.{Sys, ifGoal, planIn, planFrom, planUpTo}
 use Rattle.planner_theory.specs.Moves.{count, gain, land, reached, goes, sysOf, decode, StepOf, Follows}
 use Rattle.planner_theory.specs.Settings.{lookUp, walkAt, order}
-use Rattle.planner_theory.specs.Choices.{placesOf, bitsFrom}
+use Rattle.planner_theory.specs.Choices.{placesOf, choiceBits}
 use Rattle.planner_theory.proofs.Least.{firstFrom-came}
 use Rattle.planner_theory.proofs.MoveLaws.{count-path, count-stop, path-falls, bits-of, choice-length, gain-within}
 use Rattle.planner_theory.proofs.SameSearch.{decode-step}
@@ -43,15 +43,15 @@ module _ (net : Network) (a : Accepted net) where
     chosen-of = omega (arith, st .chosen, count-path net x (st .route) (st .walks))
 
     -- the operation's bits go place by place along the setting's path, its count of choices being 2 to the count of digits
-    pub decode-bits : (cs : List ℕ) → decode net x (c ∷ cs) ≡ bitsFrom net (placesOf (st .route)) (count net x) c ∷ decode net (land net x c) cs
+    pub decode-bits : (cs : List ℕ) → decode net x (c ∷ cs) ≡ choiceBits net (placesOf (st .route)) (count net x) c ∷ decode net (land net x c) cs
     decode-bits cs =
         decode-step net a x (st .route) (st .walks) c cs
         ∙ rw (bits-of net (a .wf) (st .route) (path-falls net (a .wf) (lookUp sb x) (st .route) (st .walks)) c chosen-of, ← (count-path net x (st .route) (st .walks)))
 
-    pub bits-length : length (bitsFrom net (placesOf (st .route)) (count net x) c) ≡ pathLength (st .route)
+    pub bits-length : length (choiceBits net (placesOf (st .route)) (count net x) c) ≡ pathLength (st .route)
     bits-length =
         let falls = path-falls net (a .wf) (lookUp sb x) (st .route) (st .walks) in
-        ap length (sym (bits-of net (a .wf) (st .route) falls c chosen-of ∙ ap (λ (h : ℕ). bitsFrom net (placesOf (st .route)) h c) (sym (count-path net x (st .route) (st .walks)))))
+        ap length (sym (bits-of net (a .wf) (st .route) falls c chosen-of ∙ ap (λ (h : ℕ). choiceBits net (placesOf (st .route)) h c) (sym (count-path net x (st .route) (st .walks)))))
         ∙ choice-length net (a .wf) (st .route) falls c chosen-of
 
   -- ---- all steps

@@ -12,7 +12,7 @@ use Rattle.model.specs.NetworkText.{isSome}
 use Rattle.model.specs.Planner.{orNext, startingWith}
 use Rattle.model.proofs.Lists.{true-false, or-false-right, or-assoc, some-same}
 use Rattle.planner_theory.specs.Search.{Sys, firstFrom, ifGoal, planIn, planUpTo, FirstAt}
-use Rattle.planner_theory.specs.Layers.{can, someOf, Leads, Earlier, Stepped, Layers}
+use Rattle.planner_theory.specs.Layers.{can, someOf, Leads, MetBy, Stepped, Layers}
 use Rattle.planner_theory.proofs.Least.{some-none, planIn-step, planIn-none, planIn-first, from-none, from-some}
 
 -- ---- a test on one of n numbers
@@ -95,7 +95,7 @@ trace-step M n s r cs e f =
 -- ---- other sets, the same up to set d
 
 module _ (L L′ : ℕ → ℕ → Bool) (d : ℕ) (same : (j s : ℕ) → j ≤ d → L′ j s ≡ L j s) where
-  pub earlier-same : (j t : ℕ) → j ≤ d → Earlier L j t → Earlier L′ j t
+  pub earlier-same : (j t : ℕ) → j ≤ d → MetBy L j t → MetBy L′ j t
   earlier-same j t le w = record { at = w .at; within = w .within; is = same (w .at) t (omega (arith, w .within)) ∙ w .is }
 
   pub stepped-same : (M : Sys) (j t : ℕ) → j ≤ d → Stepped M L j t → Stepped M L′ j t
@@ -138,7 +138,7 @@ module _ (M : Sys) (start : ℕ) (L : ℕ → ℕ → Bool) where
 
   pub layers-next : (d : ℕ) → Layers M start L d → ((s : ℕ) → L d s ≡ true → M .goal s ≡ false)
       → ((t : ℕ) → L (suc d) t ≡ true → Stepped M L d t)
-      → ((s c : ℕ) → L d s ≡ true → c < M .choices s → Earlier L (suc d) (M .to s c))
+      → ((s c : ℕ) → L d s ≡ true → c < M .choices s → MetBy L (suc d) (M .to s c))
       → Layers M start L (suc d)
   layers-next d h off stepped closed = record { first = h .first; sound = sound; closed = closed′; short = no-goal d h off }
     where
@@ -156,7 +156,7 @@ module _ (M : Sys) (start : ℕ) (L : ℕ → ℕ → Bool) where
             | yes p ↦ let z : j ≡ suc d = omega arith in rw z (last s (rw z at e))
           ]
 
-      closed′ : (j s c : ℕ) → j < suc d → L j s ≡ true → c < M .choices s → Earlier L (suc j) (M .to s c)
+      closed′ : (j s c : ℕ) → j < suc d → L j s ≡ true → c < M .choices s → MetBy L (suc j) (M .to s c)
       closed′ j s c lt e less =
           elim (decLt j d) [
             | yes p ↦ h .closed j s c p e less
@@ -220,7 +220,7 @@ module _ (M : Sys) (start : ℕ) (L : ℕ → ℕ → Bool) where
         by false p false q = refl
         by false p true q = absurd (early (h .closed j s c lt e less))
           where
-            early : Earlier L (suc j) t → ⊥
+            early : MetBy L (suc j) t → ⊥
             early w = elim (decLt (w .at) (suc j)) [
               | yes less ↦ let r = can-plan M (w .at + (d - suc j)) start (h .sound (w .at) t (omega arith) (w .is) (d - suc j) q) in some-none (r .1) (least-first (w .at + (d - suc j)) (omega arith))
               | no more ↦ let z : w .at ≡ suc j = omega (arith, w .within) in true-false (sym (rw z at (w .is)) ∙ p)

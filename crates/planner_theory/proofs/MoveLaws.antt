@@ -19,7 +19,7 @@ use Rattle.model.proofs.Walking.{Falls, walk-falls}
 use Rattle.planner_theory.specs.Moves.{maskOf, onPath, choicesOn, targetsOn, count, gain, land}
 use Rattle.planner_theory.proofs.Landing.{landNum}
 use Rattle.planner_theory.specs.Settings.{Look, settingOf, lookUp, walkAt, order, baseOf, choiceOf, loaded, settingAfter}
-use Rattle.planner_theory.specs.Choices.{placesOf, bitsFrom}
+use Rattle.planner_theory.specs.Choices.{placesOf, choiceBits}
 use Rattle.planner_theory.proofs.Steering.{getD-in, distinct-bits, steering-bit, bit-listed}
 use Rattle.planner_theory.proofs.SettingNumbers.{setting-same, setting-small, base-is}
 use Rattle.planner_theory.proofs.Choices.{steeringCount, bitsAt, bits-from, count-choices, choice-bits}
@@ -72,10 +72,10 @@ module _ (net : Network) (wf : WellFormed net) where
     bits-are : (c : ℕ) → c < 2 ^ length (order sb p) → choiceOf net p c ≡ bitsAt net (placesOf p) c
     bits-are c lt = choice-bits net p c (subst (λ (k : ℕ). c < 2 ^ k) (sym steering-places) lt)
 
-    pub bits-of : (c : ℕ) → c < 2 ^ length (order sb p) → choiceOf net p c ≡ bitsFrom net (placesOf p) (2 ^ length (order sb p)) c
+    pub bits-of : (c : ℕ) → c < 2 ^ length (order sb p) → choiceOf net p c ≡ choiceBits net (placesOf p) (2 ^ length (order sb p)) c
     bits-of c lt =
         bits-are c lt ∙ bits-from net (placesOf p) c (subst (λ (k : ℕ). c < 2 ^ k) (sym steering-places) lt)
-        ∙ ap (λ (k : ℕ). bitsFrom net (placesOf p) (2 ^ k) c) steering-places
+        ∙ ap (λ (k : ℕ). choiceBits net (placesOf p) (2 ^ k) c) steering-places
 
     pub choice-in : (c : ℕ) → c < 2 ^ length (order sb p) → List·Memᴰ (choiceOf net p c) (fillings net p)
     choice-in c lt = getD-in (fillings net p) c [] (omega (arith, choices-count))

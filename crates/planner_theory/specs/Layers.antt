@@ -20,7 +20,7 @@ abbrev pub Leads : Sys → ℕ → ℕ → ℕ → Type 0
 Leads M start j s = (n : ℕ) → can M n s ≡ true → can M (j + n) start ≡ true
 
 -- state t is in set j or an earlier one
-pub record Earlier (L : ℕ → ℕ → Bool) (j t : ℕ) : Type 0 where
+pub record MetBy (L : ℕ → ℕ → Bool) (j t : ℕ) : Type 0 where
   pub at : ℕ
   pub within : at ≤ j
   pub is : L at t ≡ true
@@ -38,5 +38,5 @@ pub record Stepped (M : Sys) (L : ℕ → ℕ → Bool) (j t : ℕ) : Type 0 whe
 pub record Layers (M : Sys) (start : ℕ) (L : ℕ → ℕ → Bool) (d : ℕ) : Type 0 where
   pub first : L 0 start ≡ true
   pub sound : (j s : ℕ) → j ≤ d → L j s ≡ true → Leads M start j s
-  pub closed : (j s c : ℕ) → j < d → L j s ≡ true → c < M .choices s → Earlier L (suc j) (M .to s c)
+  pub closed : (j s c : ℕ) → j < d → L j s ≡ true → c < M .choices s → MetBy L (suc j) (M .to s c)
   pub short : (j s : ℕ) → j < d → L j s ≡ true → M .goal s ≡ false

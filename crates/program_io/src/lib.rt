@@ -5,7 +5,7 @@ use libc::STDIN_FILENO;
 use libc::STDOUT_FILENO;
 ghost use mathlib.Core.Path.{_≡_};
 ghost use Rattle.io.specs.Counts.{Counts};
-ghost use Rattle.program_io.specs.Reading.{Fits};
+ghost use Rattle.program_io.specs.Reading.{WithinBuffer};
 
 // A text read to the front of a buffer, by its count of bytes; not read after a message that says why.
 pub struct Input {
@@ -14,7 +14,7 @@ pub struct Input {
 }
 
 // What one read answers.
-enum Step {
+enum ReadStep {
     Bytes(usize),
     Failed,
 }
@@ -73,14 +73,14 @@ fn failed(what: &[u8]) -> Input
 }
 
 // One read: the count of bytes at the front of the buffer, 0 at the input's end.
-fn read_some(fd: i32, buffer: &mut [u8]) -> Step
-    ensures { λ r. ⌜ Fits r (now (buffer .exit)) ⌝ }
+fn read_some(fd: i32, buffer: &mut [u8]) -> ReadStep
+    ensures { λ r. ⌜ WithinBuffer r (now (buffer .exit)) ⌝ }
 {
     let got = libc::read(fd, buffer);
     if got < 0 {
-        return Step::Failed;
+        return ReadStep::Failed;
     }
-    Step::Bytes(io::count(got, buffer))
+    ReadStep::Bytes(io::count(got, buffer))
 }
 
 // Reads until the buffer is full or the input ends. A read that fails leaves no text: it is never cut.
@@ -90,8 +90,8 @@ fn read_all(fd: i32, name: &[u8], text: &mut [u8]) -> Input
     let mut done: usize = 0;
     while done < text.len() {
         match read_some(fd, &mut text[done..]) {
-            Step::Failed => return failed(name),
-            Step::Bytes(n) => {
+            ReadStep::Failed => return failed(name),
+            ReadStep::Bytes(n) => {
                 if n == 0 {
                     break;
                 }

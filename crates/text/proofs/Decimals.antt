@@ -18,7 +18,7 @@ use Rattle.model.proofs.LineForms.{bound}
 use Rattle.text.specs.declared.Class.{Class}
 use Rattle.text.specs.declared.Class.the-variants.{Digit, Tab, LineEnd, Other}
 use Rattle.text.specs.declared.Number.{Number}
-use Rattle.text.specs.Numbers.{classOf, digitOrOther, numberOf, IsDecimal}
+use Rattle.text.specs.Numbers.{classOf, digitOrOther, decimalOf, IsDecimal}
 
 -- ---- classes
 
@@ -126,5 +126,5 @@ decimal-small f v e = go (leb 1 (length f) && leb (length f) 4 && not (leadingZe
         ten-small v (length f) (digits-small f 0 v 0 (length f) (omega arith) q (lit≤ tt)) (leb-true (length f) 4 (b .1))
     go false p q = absurd (none-some v q)
 
-pub is-decimal : (f : Bytes) (r : Number) → numberOf r ≡ decimal f → IsDecimal f r
-is-decimal f r e = record { value = e; small = λ v q. decimal-small f v (sym e ∙ ap numberOf q) }
+pub is-decimal : (f : Bytes) (r : Number) → decimalOf r ≡ decimal f → IsDecimal f r
+is-decimal f r e = record { value = e; small = λ v q. decimal-small f v (sym e ∙ ap decimalOf q) }

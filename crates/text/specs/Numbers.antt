@@ -19,10 +19,10 @@ digitOrOther (some d) = Digit d
 unfoldable pub classOf : ℕ → Class
 classOf b = cond (eqb b tab) Tab (cond (eqb b lineEnd) LineEnd (digitOrOther (digit b)))
 
-abbrev pub numberOf : Number → Option ℕ
-numberOf (Value v) = some v
-numberOf Bad = none
+abbrev pub decimalOf : Number → Option ℕ
+decimalOf (Value v) = some v
+decimalOf Bad = none
 
 pub record IsDecimal (f : Bytes) (r : Number) : Type 0 where
-  pub value : numberOf r ≡ decimal f
+  pub value : decimalOf r ≡ decimal f
   pub small : (v : ℕ) → r ≡ Value v → v ≤ 9999

@@ -7,16 +7,16 @@ use lib.ListN.{length, take, drop, getD}
 use Rattle.model.specs.Text.{Bytes, parts, fields}
 use Rattle.text.specs.declared.Fields.{Fields}
 
--- the count of bytes before the first separator, or of all bytes where there is none
-unfoldable pub before : ℕ → Bytes → ℕ
-before sep t = length (getD (parts sep t) 0 [])
+-- the count of bytes bytesBefore the first separator, or of all bytes where there is none
+unfoldable pub bytesBefore : ℕ → Bytes → ℕ
+bytesBefore sep t = length (getD (parts sep t) 0 [])
 
 -- the place of the first separator from `at` on, or the text's length
 pub record IsEnd (sep : ℕ) (t : Bytes) (at end : ℕ) : Type 0 where
-  pub found : end ≡ at + before sep (drop at t)
+  pub found : end ≡ at + bytesBefore sep (drop at t)
   pub within : end ≤ length t
 
--- field k of a line lies from its start to one before the next field's start
+-- field k of a line lies from its start to one bytesBefore the next field's start
 pub record FieldAt (line : Bytes) (starts : List ℕ) (k : ℕ) : Type 0 where
   pub ordered : getD starts k 0 < getD starts (k + 1) 0
   pub within : getD starts (k + 1) 0 ≤ length line + 1

@@ -5,7 +5,7 @@ ghost use Prim.Native.Nat.{_≤_, _<_};
 ghost use lib.ListN.{length, getD};
 ghost use Rattle.model.specs.Text.{fields, digitsFrom, same, wordOf};
 ghost use Rattle.text.specs.Places.{IsEnd, IsSplit, FieldStarts};
-ghost use Rattle.text.specs.Numbers.{classOf, numberOf, IsDecimal};
+ghost use Rattle.text.specs.Numbers.{classOf, decimalOf, IsDecimal};
 ghost use Rattle.text.specs.Words.{wordFor};
 ghost use Rattle.text.specs.Bits.{isBit, allBits, bitsForm};
 
@@ -102,7 +102,7 @@ pub fn class_of(b: u8) -> Class
 // The number that at most four digits give.
 fn digits_of(f: &[u8]) -> Number
     requires { ⌜ length (now f) ≤ 4 ⌝ }
-    ensures { λ r. ⌜ numberOf r ≡ digitsFrom 0 (now (f .entry)) ⌝ }
+    ensures { λ r. ⌜ decimalOf r ≡ digitsFrom 0 (now (f .entry)) ⌝ }
 {
     let mut v: usize = 0;
     let mut i: usize = 0;

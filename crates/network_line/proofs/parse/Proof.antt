@@ -9,7 +9,7 @@ use Rattle.text.specs.declared.Word.the-variants.{Seg, Mux, Out, Hold, Write, R
 use Rattle.text.specs.declared.Word.{Word}
 use Rattle.text.specs.Words.{wordFor}
 use Rattle.network_line.specs.declared.ParsedLine.{ParsedLine}
-use Rattle.network_line.specs.Line.{IsParsed, IsLine}
+use Rattle.network_line.specs.Line.{IsParsed, IsParsedLine}
 use Rattle.network_line.proofs.Lines.{parts-some, wrong, plain-line, word-line}
 use Rattle.network_line.proofs.parse.Statement.{statement}
 use Rattle.network_line.proofs.parse.Tie as tie
@@ -18,7 +18,7 @@ abbrev lineAt : tie.After-word-of → Bytes
 lineAt c = c .before .before .before .before .before .before .args .line .now
 
 by-word : (c : tie.After-word-of) (w : Word) (r : ParsedLine) → c .word-of .result ≡ w
-    → IsParsed (lineAt c) (bind (wordFor w) (lineBy (fields (lineAt c)))) r → IsLine (lineAt c) r
+    → IsParsed (lineAt c) (bind (wordFor w) (lineBy (fields (lineAt c)))) r → IsParsedLine (lineAt c) r
 by-word c w r e i = word-line _ (wordFor w) r (sym (c .word-of .ensures ∙ ap wordOf (c .before .field .ensures)) ∙ ap wordFor e) i
 
 split-requires : tie.Need-split-requires

@@ -8,9 +8,9 @@ use borrow.Author.Needs.{needs}
 use lib.ListN.{length}
 use lib.Seq.{length-take-le}
 use Rattle.io.specs.Counts.{Counts}
-use Rattle.program_io.specs.declared.Step.{Step}
-use Rattle.program_io.specs.declared.Step.the-variants.{Bytes}
-use Rattle.program_io.specs.Reading.{Fits}
+use Rattle.program_io.specs.declared.ReadStep.{ReadStep}
+use Rattle.program_io.specs.declared.ReadStep.the-variants.{Bytes}
+use Rattle.program_io.specs.Reading.{WithinBuffer}
 use Rattle.program_io.proofs.read_all.Statement.{statement}
 use Rattle.program_io.proofs.read_all.Tie as tie
 
@@ -23,7 +23,7 @@ abbrev μ-loop : tie.MeasureT-loop
 counted : (n : ℕ) (l : List ℕ) → n ≤ length l → Counts n l
 counted n l h = (h, sym (length-take-le n l h))
 
-fitting : (n : ℕ) (s : Step) (l : List ℕ) → s ≡ Bytes n → Fits s l → n ≤ length l
+fitting : (n : ℕ) (s : ReadStep) (l : List ℕ) → s ≡ Bytes n → WithinBuffer s l → n ≤ length l
 fitting n s l e h = rw e at h
 
 -- the bytes of one read fit into the part lent

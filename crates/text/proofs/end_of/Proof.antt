@@ -4,13 +4,13 @@ use mathlib.Core.Path.{_≡_, refl}
 use Prim.Native.Nat.{_+_, _-_, _≤_}
 use lib.ListN.{length, drop}
 use borrow.Author.Needs.{needs}
-use Rattle.text.specs.Places.{before}
+use Rattle.text.specs.Places.{bytesBefore}
 use Rattle.text.proofs.Parts.{scan-end, scan-hit, scan-miss}
 use Rattle.text.proofs.end_of.Statement.{statement}
 use Rattle.text.proofs.end_of.Tie as tie
 
 abbrev Inv-loop : tie.InvT-loop
-Inv-loop s at b i₀ i = (i ≤ length s) × (i + before b (drop i s) ≡ at + before b (drop at s))
+Inv-loop s at b i₀ i = (i ≤ length s) × (i + bytesBefore b (drop i s) ≡ at + bytesBefore b (drop at s))
 
 abbrev μ-loop : tie.MeasureT-loop
 μ-loop s at b i₀ i = length s - i
