@@ -12,12 +12,13 @@ use Rattle.model.specs.Result.{refused}
 use Rattle.model.specs.Tap.{idle}
 use Rattle.model.specs.Places.{_or_, Listed, ClockRefusal, short-row, PlanTextRefusal, plan-line, plan-unended, plan-too-long}
 use Rattle.model.specs.Calls.{writeClocks}
-use Rattle.model.proofs.Demands.{clock-buffers, refusals}
+use Rattle.model.specs.Demands.{OnlyFirst}
+use Rattle.model.proofs.Demands.{clock-buffers, clock-buffers-after, refusals}
 use Rattle.clock_writer.specs.Machine.{stateNumber, isOne, stateAfter}
 use Rattle.clock_writer.specs.declared.Written.{Written}
 use Rattle.clock_writer.specs.declared.Written.the-variants.{Refused}
 use Rattle.clock_writer.specs.Clocks.{writtenAnswer, WroteClocks}
-use Rattle.clock_writer.specs.Demand.{BuffersKept, EndsListed, RefusesOnlyShort, BackToIdle}
+use Rattle.clock_writer.specs.Demand.{BuffersKept, BuffersWritten, EndsListed, RefusesOnlyShort, BackToIdle}
 use Rattle.clock_writer.proofs.Idle.{idle-after}
 
 -- the model's answer where the call refused
@@ -29,6 +30,11 @@ pub buffers-kept : BuffersKept
 buffers-kept p tms tdi w tms′ tdi′ wrote number place e =
     let kept = clock-buffers p tms tdi number place (refuses p tms tdi w tms′ tdi′ wrote number place e) in
     (wrote .tms-left ∙ kept .0, wrote .tdi-left ∙ kept .1)
+
+pub buffers-written : BuffersWritten
+buffers-written p tms tdi count tms′ tdi′ wrote =
+    let after = clock-buffers-after p tms tdi count (sym (wrote .result)) in
+    (subst (OnlyFirst count tms) (sym (wrote .tms-left)) (after .0), subst (OnlyFirst count tdi) (sym (wrote .tdi-left)) (after .1))
 
 pub ends-listed : EndsListed
 ends-listed p tms tdi w tms′ tdi′ wrote number place e =

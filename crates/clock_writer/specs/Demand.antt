@@ -11,6 +11,7 @@ use Rattle.model.specs.Refusals as refusal
 use Rattle.model.specs.Text.{Bytes}
 use Rattle.model.specs.Tap.{idle}
 use Rattle.model.specs.Places.{_or_, ClockRefusal, PlanTextRefusal}
+use Rattle.model.specs.Demands.{OnlyFirst}
 use Rattle.clock_writer.specs.declared.Written.{Written}
 use Rattle.clock_writer.specs.declared.Written.the-variants.{Clocks, Refused}
 use Rattle.clock_writer.specs.Machine.{stateNumber, RunReturned}
@@ -22,6 +23,11 @@ use Rattle.clock_writer.specs.Clocks.{WroteClocks}
 abbrev pub BuffersKept : Type 0
 BuffersKept = (p : Bytes) (tms tdi : List ℕ) (w : Written) (tms′ tdi′ : List ℕ) → WroteClocks p tms tdi w tms′ tdi′
     → (number place : ℕ) → w ≡ Refused number place → (tms′ ≡ tms) × (tdi′ ≡ tdi)
+
+-- "Output buffers change only on success, in the bytes needed."
+abbrev pub BuffersWritten : Type 0
+BuffersWritten = (p : Bytes) (tms tdi : List ℕ) (count : ℕ) (tms′ tdi′ : List ℕ) → WroteClocks p tms tdi (Clocks count) tms′ tdi′
+    → OnlyFirst count tms tms′ × OnlyFirst count tdi tdi′
 
 -- "Whatever text or length comes in, each call ends with a result or one listed number and place."
 abbrev pub EndsListed : Type 0

@@ -1,4 +1,4 @@
--- The controller's states by stateNumber, and the clock machine over them.
+-- The controller's states by number, and the clock machine over them.
 -- Assumes nothing.
 use mathlib.Core.Path.{_≡_}
 use mathlib.Core.Bool.{Bool, cond}

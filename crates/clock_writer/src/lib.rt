@@ -35,7 +35,7 @@ const NEXT: [[u8; 2]; 16] = [
 // Run-Test/Idle.
 pub const IDLE: u8 = 1;
 
-// What the clock writer answers: the count of clocks written, or a refusal's stateNumber and place.
+// What the clock writer answers: the count of clocks written, or a refusal's number and place.
 pub enum Written {
     Clocks(usize),
     Refused(usize, usize),

@@ -12,7 +12,7 @@ use Rattle.model.specs.Calls.{makePlan}
 use Rattle.model.specs.Places.{_or_, Listed, NetworkRefusal, PlannerRefusal}
 use Rattle.model.specs.Demands.{pastCheck12, WrittenPlan as ModelPlanned, ExactPlans as ModelExactly}
 use Rattle.model.proofs.Lists.{not-ok, refusal-number, refusal-place}
-use Rattle.model.proofs.Demands.{plan-buffer, search-space, refusals, planner, limits}
+use Rattle.model.proofs.Demands.{plan-buffer, plan-buffer-after, search-space, refusals, planner, limits}
 use Rattle.marker.proofs.Demand.{verdict-pass}
 use Rattle.marker.specs.Marks.{gotsOf}
 use Rattle.planner_text.specs.declared.Planned.{Planned}
@@ -25,6 +25,7 @@ use Rattle.planner.specs.Demand.{BuffersKept, EndsListed, PlanWritten, O
 pub buffers-kept : BuffersKept
 buffers-kept n search plan a search′ plan′ made = record {
   plan-kept = λ number place e. made .plan-left ∙ plan-buffer n search plan number place (sym (made .result) ∙ ap plannedAnswer e);
+  plan-written = λ count e. rw (made .plan-left) (plan-buffer-after n search plan count (sym (made .result) ∙ ap plannedAnswer e));
   search-cleared = λ past. rw (made .search-left) (search-space n search plan .0 (sym (ap pastCheck12 (made .result)) ∙ past));
   search-kept = λ before. made .search-left ∙ search-space n search plan .1 (sym (ap pastCheck12 (made .result)) ∙ before);
 }

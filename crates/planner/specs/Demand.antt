@@ -15,7 +15,7 @@ use Rattle.model.specs.Plan.{Plan, ValidPlan, Named}
 use Rattle.model.specs.NetworkText.{readNetwork}
 use Rattle.model.specs.PlanText.{readPlan}
 use Rattle.model.specs.Places.{_or_, NetworkRefusal, PlannerRefusal}
-use Rattle.model.specs.Demands.{SearchCleared, pastCheck12}
+use Rattle.model.specs.Demands.{OnlyFirst, SearchCleared, pastCheck12}
 use Rattle.marker.specs.declared.targets.Mark.{Mark}
 use Rattle.marker.specs.declared.targets.Verdict.the-variants.{Pass}
 use Rattle.marker.specs.Marks.{MarkReturned}
@@ -29,6 +29,8 @@ use Rattle.planner.specs.Call.{MadePlan}
 -- "Every lent buffer keeps all its bytes on a refusal, save the search space, which is cleared as document 01 says"
 pub record LentLeft (search plan : List ℕ) (a : Planned) (search′ plan′ : List ℕ) : Type 0 where
   pub plan-kept : (number place : ℕ) → a ≡ Refused number place → plan′ ≡ plan
+  -- "Output buffers change only on success, in the bytes needed."
+  pub plan-written : (count : ℕ) → a ≡ Written count → OnlyFirst count plan plan′
   -- "Past check 12 the first 11,664 search entries end as 0; others never change."
   pub search-cleared : pastCheck12 (plannedAnswer a) ≡ true → SearchCleared search search′
   pub search-kept : pastCheck12 (plannedAnswer a) ≡ false → search′ ≡ search
