@@ -39,18 +39,12 @@ numbered updateIR = (lit< tt, refl)
 
 -- ---- the table
 
--- the rows of `NEXT`
-abbrev pub rows : List (List ℕ)
-rows =
-    (1 ∷ 0 ∷ []) ∷ (1 ∷ 2 ∷ []) ∷ (3 ∷ 9 ∷ []) ∷ (4 ∷ 5 ∷ []) ∷ (4 ∷ 5 ∷ []) ∷ (6 ∷ 8 ∷ []) ∷ (6 ∷ 7 ∷ []) ∷ (4 ∷ 8 ∷ [])
-    ∷ (1 ∷ 2 ∷ []) ∷ (10 ∷ 0 ∷ []) ∷ (11 ∷ 12 ∷ []) ∷ (11 ∷ 12 ∷ []) ∷ (13 ∷ 15 ∷ []) ∷ (13 ∷ 14 ∷ []) ∷ (11 ∷ 15 ∷ []) ∷ (1 ∷ 2 ∷ []) ∷ []
-
 abbrev rowFor : Tap → List ℕ
 rowFor t = stateNumber (next t false) ∷ stateNumber (next t true) ∷ []
 
--- the rule, computed once over the whole table
-table-rule : rows ≡ map rowFor states
-table-rule = refl
+-- the table by its rule; the proof of `next_state` compares it with `NEXT`
+abbrev pub table : List (List ℕ)
+table = map rowFor states
 
 getD-inside : {A : Type 0} (l : List A) (n : ℕ) (d e : A) → n < length l → getD l n d ≡ getD l n e
 getD-inside [] n d e h = absurd (not-suc-le-zero h)
@@ -61,11 +55,10 @@ by-column : (t : Tap) (m : Bool) → getD (rowFor t) (cond m 1 0) 0 ≡ stateNum
 by-column t true = refl
 by-column t false = refl
 
--- and the rule at each entry
-pub table-at : (s b : ℕ) → s < 16 → getD (getD rows s []) (columnOf b) 0 ≡ nextNumber s (isOne b)
+-- the rule at each entry
+pub table-at : (s b : ℕ) → s < 16 → getD (getD table s []) (columnOf b) 0 ≡ nextNumber s (isOne b)
 table-at s b h =
-    ap (λ (r : List ℕ). getD r (columnOf b) 0)
-    (ap (λ (l : List (List ℕ)). getD l s []) table-rule ∙ getD-inside (map rowFor states) s [] (rowFor reset) h ∙ List·getD-map rowFor states s reset)
+    ap (λ (r : List ℕ). getD r (columnOf b) 0) (getD-inside table s [] (rowFor reset) h ∙ List·getD-map rowFor states s reset)
     ∙ by-column (stateAt s) (isOne b)
 
 pub column-small : (b : ℕ) → columnOf b < 2

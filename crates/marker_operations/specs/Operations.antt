@@ -5,6 +5,7 @@ use mathlib.Core.List.{List, [], map}
 use mathlib.Core.Option.{Option, none, some}
 use Prim.Native.Nat.{ℕ, zero, suc, _<_}
 use lib.ListN.{length, getD, take}
+use Rattle.model.specs.Refusals as refusal
 use Rattle.model.specs.Result.{Result, ok, refused}
 use Rattle.model.specs.Text.{Bytes}
 use Rattle.model.specs.Network.{Network, Config}
@@ -148,7 +149,7 @@ Startable ns t m = (net : Network) × HoldsStart net ns t m
 
 abbrev pub fromStart : Network → Plan → Walk → Result Run
 fromStart net plan (path p) = runFrom net 1 p (net .start) plan
-fromStart net plan (stop m) = refused 9 m
+fromStart net plan (stop m) = refused refusal.start m
 
 abbrev pub Runs : List ℕ → Summary → Bytes → Marking → Ran → Marking → Type 0
 Runs ns t text old r new =

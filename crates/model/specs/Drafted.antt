@@ -7,6 +7,7 @@ use mathlib.Core.Option.{none, some}
 use mathlib.Core.List.{List, [], List·Memᴰ}
 use Prim.Native.Nat.{ℕ, suc, _≤_, _<_}
 use lib.ListN.{length, getD}
+use Rattle.model.specs.Limits.{maxNodes, maxBits}
 use Rattle.model.specs.Network.{segment, Node, multiplexer, at, noNode, lenOf, totalBits, Held}
 use Rattle.model.specs.NetworkText.{Draft, outside, firstBad}
 use Rattle.model.specs.Accepted.{TargetsFit}
@@ -42,6 +43,6 @@ pub data Stage (d : Draft) (n : ℕ) : Type 0 where
 
 pub record Sound (d : Draft) (n : ℕ) : Type 0 where
   pub nodes-placed : EachNode Placed (d .nodes)
-  pub few-nodes : length (d .nodes) ≤ 128
-  pub few-bits : totalBits (d .nodes) ≤ 4000
+  pub few-nodes : length (d .nodes) ≤ maxNodes
+  pub few-bits : totalBits (d .nodes) ≤ maxBits
   pub stage : Stage d n

@@ -3,6 +3,7 @@
 use mathlib.Core.Path.{_≡_}
 use Prim.Native.Nat.{ℕ}
 use lib.ListN.{length}
+use Rattle.model.specs.Refusals as refusal
 use Rattle.model.specs.Result.{Result, ok, refused, andThen}
 use Rattle.model.specs.Text.{Bytes}
 use Rattle.model.specs.Plan.{Plan}
@@ -13,7 +14,7 @@ use Rattle.plan_text.specs.declared.Form.the-variants.{Good, Refused}
 -- number and values of each case: the count of lines, or 14 with its place
 abbrev pub formOf : Form → Result ℕ
 formOf (Good lines) = ok lines
-formOf (Refused place) = refused 14 place
+formOf (Refused place) = refused refusal.planForm place
 
 abbrev pub planForm : Bytes → Result ℕ
 planForm t = andThen (readPlan t) (λ plan. ok (length plan))

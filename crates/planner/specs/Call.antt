@@ -4,7 +4,7 @@ use mathlib.Core.Path.{_≡_}
 use mathlib.Core.List.{List}
 use Prim.Native.Nat.{ℕ, _≤_}
 use lib.ListN.{length, replicate}
-use Rattle.model.specs.Limits.{searchSize}
+use Rattle.model.specs.Limits.{maxSteeringBits, searchSize}
 use Rattle.model.specs.Result.{ok}
 use Rattle.model.specs.Text.{Bytes}
 use Rattle.model.specs.Calls.{writeOver, written, countOf, searchEntries, planned, makePlan}
@@ -18,7 +18,7 @@ use Rattle.planner_text.specs.Writing.{plannedAnswer}
 pub record Searchable (r : Network) (search : List ℕ) : Type 0 where
   pub filled : RecordComplete r
   pub accepted : Accepted (recordedNetwork r)
-  pub few : r .«steering_count» ≤ 6
+  pub few : r .«steering_count» ≤ maxSteeringBits
   pub enough : searchSize ≤ length search
 
 -- the answer to it, the search space and the plan buffer

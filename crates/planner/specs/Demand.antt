@@ -7,7 +7,8 @@ use mathlib.Core.Logic.{_↔_}
 use mathlib.Core.List.{List}
 use Prim.Native.Nat.{ℕ, _≤_, _<_}
 use lib.ListN.{length, take}
-use Rattle.model.specs.Limits.{maxPlanBytes, searchSize}
+use Rattle.model.specs.Limits.{maxOperations, maxPlanBytes, maxSteeringBits, searchSize}
+use Rattle.model.specs.Refusals as refusal
 use Rattle.model.specs.Result.{ok}
 use Rattle.model.specs.Text.{Bytes}
 use Rattle.model.specs.Network.{Network, steeringBits}
@@ -56,23 +57,23 @@ pub record PlanWritten (n : Bytes) (net : Network) (text : Bytes) : Type 0 where
 
 -- the two answers with the full sizes lent
 pub data Outcome (n : Bytes) (net : Network) (a : Planned) (plan′ : List ℕ) : Type 0 where
-  no-plan : a ≡ Refused 11 0 → Outcome n net a plan′
+  no-plan : a ≡ Refused refusal.noPlan 0 → Outcome n net a plan′
   a-plan : (count : ℕ) → a ≡ Written count → PlanWritten n net (take count plan′) → Outcome n net a plan′
 
 -- "With document 01's buffer sizes lent and at most 6 steering bits, the planner refuses with 11 exactly when no valid plan of
 -- at most 16 operations exists; otherwise it writes a plan .."
 pub record Exact (n : Bytes) (net : Network) (a : Planned) (plan′ : List ℕ) : Type 0 where
-  pub none-exactly : (a ≡ Refused 11 0) ↔ ((other : Plan) → ValidPlan net other → 16 < length other)
+  pub none-exactly : (a ≡ Refused refusal.noPlan 0) ↔ ((other : Plan) → ValidPlan net other → maxOperations < length other)
   pub outcome : Outcome n net a plan′
 
 abbrev pub PlansExactly : Type 0
 PlansExactly = (n : Bytes) (net : Network) (search plan : List ℕ) (a : Planned) (search′ plan′ : List ℕ) → MadePlan n search plan a search′ plan′
-    → readNetwork n ≡ ok net → length (steeringBits (net .nodes)) ≤ 6 → searchSize ≤ length search → maxPlanBytes ≤ length plan → Exact n net a plan′
+    → readNetwork n ≡ ok net → length (steeringBits (net .nodes)) ≤ maxSteeringBits → searchSize ≤ length search → maxPlanBytes ≤ length plan → Exact n net a plan′
 
 -- 12 and 13 only where too little is lent
 pub record TooLittleLent (search plan : List ℕ) (a : Planned) : Type 0 where
-  pub twelve : (place : ℕ) → a ≡ Refused 12 place → (place ≡ searchSize) × (length search < searchSize)
-  pub thirteen : (place : ℕ) → a ≡ Refused 13 place → (length plan < place) × (place ≤ maxPlanBytes)
+  pub twelve : (place : ℕ) → a ≡ Refused refusal.searchSpace place → (place ≡ searchSize) × (length search < searchSize)
+  pub thirteen : (place : ℕ) → a ≡ Refused refusal.buffer place → (length plan < place) × (place ≤ maxPlanBytes)
 
 abbrev pub RefusesOnlyShort : Type 0
 RefusesOnlyShort = (n : Bytes) (search plan : List ℕ) (a : Planned) (search′ plan′ : List ℕ) → MadePlan n search plan a search′ plan′ → TooLittleLent search plan a
