@@ -44,12 +44,12 @@ module _ (bits known want len : ℕ) where
     by-bit : heldFrom b ≡ (sameTrit (tritAt bits known b) (wordBit want b) && heldFrom (b + 1))
     by-bit = rw (tabulate-step (tritAt bits known) b len l, tabulate-step (wordBit want) b len l)
 
-    pub bit-unknown : bitValue (wordBit known b) ≡ 0 → false ≡ heldFrom b
-    bit-unknown e = go (wordBit known b) e ∙ sym by-bit
+    pub bit-unknown : (bitValue (wordBit known b) ≡ 1 → ⊥) → false ≡ heldFrom b
+    bit-unknown ne = go (wordBit known b) ne ∙ sym by-bit
       where
-        go : (k : Bool) → bitValue k ≡ 0 → false ≡ (sameTrit (cond k (some (wordBit bits b)) none) (wordBit want b) && heldFrom (b + 1))
-        go false e = refl
-        go true e = absurd (omega arith)
+        go : (k : Bool) → (bitValue k ≡ 1 → ⊥) → false ≡ (sameTrit (cond k (some (wordBit bits b)) none) (wordBit want b) && heldFrom (b + 1))
+        go false ne = refl
+        go true ne = absurd (ne refl)
 
     pub bit-other : (bitValue (wordBit bits b) ≡ bitValue (wordBit want b) → ⊥) → false ≡ heldFrom b
     bit-other ne = go (wordBit known b) (wordBit bits b) (wordBit want b) ne ∙ sym by-bit

@@ -1,6 +1,7 @@
 -- `marker_operations::note_target` meets its contract.
 -- Assumes nothing.
 use mathlib.Core.Path.{sym, ap, _∙_}
+use native.Mathlib.Omega.{arith}
 use Rattle.network_path.specs.Answers.{placed}
 use Rattle.marker_operations.proofs.Noting.{noted-before, noted-off, noted-here}
 use borrow.Author.Needs.{needs}
@@ -14,7 +15,7 @@ element-copy-out-if1 : tie.Need-element-copy-out-if1
 element-copy-out-if1 c = search needs
 
 returns : tie.Need-returns
-returns c = noted-before _ _ _ _ _ (c .before .before .pre .1 .0) (c .if1 .taken)
+returns c = noted-before _ _ _ _ _ (c .before .before .pre .1 .0) (λ z. omega (arith, c .if1 .taken))
 
 place-of-requires : tie.Need-place-of-requires
 place-of-requires c κs = search needs

@@ -9,9 +9,6 @@ use Rattle.planner_table.proofs.sets.joined_at.Tie as tie
 has-requires : tie.Need-has-requires
 has-requires c κs = search needs
 
-only-requires : tie.Need-only-requires
-only-requires c κs = together-small (c .before .before .args .m) (c .before .before .args .g) (c .before .before .pre .1) (c .before .before .pre .0)
-
 returns : tie.Need-returns
 returns c =
     let s = c .before .before .before in
@@ -21,6 +18,9 @@ returns-2 : tie.Need-returns-2
 returns-2 c =
     let s = c .before .before in
     joined-not (s .args .r) (s .args .sets) (s .args .g) (s .args .m) (sym (c .before .has .ensures) ∙ c .if1 .left)
+
+only-requires : tie.Need-only-requires
+only-requires c κs = together-small (c .before .before .args .m) (c .before .before .args .g) (c .before .before .pre .1) (c .before .before .pre .0)
 
 pub joined-at-spec : {M : Type 1} → statement M
 joined-at-spec = tie.close (tie.spec has-requires only-requires returns returns-2)
