@@ -6,3 +6,4 @@ pub mod ReadingLines
 pub mod ReadingNetwork
 pub mod Records
 pub mod Demand
+pub mod Fixed
