@@ -5,32 +5,48 @@ use mathlib.Core.Bool.{Bool, true, false, cond, _||_}
 use mathlib.Core.List.{List, [], _∷_}
 use Prim.Native.Nat.{ℕ, zero, suc, _+_, _*_, _/_, _%_, _^_, _≤_, _<_}
 use native.Mathlib.Omega.{arith}
-use native.Mathlib.Nat.{zero-div, pow-suc}
+use native.Mathlib.Nat.{pow-suc}
 use lib.ListN.{length, getD}
-use lib.Pow.{shr-shr}
+use lib.Pow.{pow-pos, shr-shr}
 use lib.Dec.{eqb, leb}
-use borrow.Author.Tests.{eq-eqb, leb-true, not-false}
+use borrow.Author.Tests.{eqb-true, eqb-false, leb-true, not-false}
 use Rattle.model.specs.Network.{Node, segment, multiplexer, at, noNode, hasShadow, lenOf, addressBits, steers, steersAt, addressIn, isSteering}
 use Rattle.model.specs.NetworkText.{Draft, hasOut, isSome, badAddress}
 use Rattle.model.specs.Drafted.{Stage, no-out, behind-out}
 use Rattle.model.proofs.Lists.{true-false, and-parts, or-left, or-right, eqb-same}
 use Rattle.model.proofs.Accepted.{no-bad, unsteered-bits}
 use Rattle.network_words.specs.Words.{wordWidth, wordBit}
+use Rattle.network_words.proofs.WordLaws.{zero-bit}
 use Rattle.network_draft.specs.declared.store.Summary.{Summary}
 use Rattle.network_draft.specs.Represents.{Arrays, Represents}
 use Rattle.network_draft.proofs.Representing.{represented-short}
 
-word-zero : (k w : ℕ) → w < 2 ^ k → ((b : ℕ) → b < k → wordBit w b ≡ false) → w ≡ 0
-word-zero zero w l f = omega (arith, l)
-word-zero (suc k) w l f =
+-- ---- words by their bits
+
+next-bit : (w b : ℕ) → wordBit (w / 2) b ≡ wordBit w (suc b)
+next-bit w b = ap (λ (x : ℕ). eqb (x % 2) 1) (shr-shr w 1 b ∙ ap (λ (x : ℕ). w / 2 ^ x) (let z : 1 + b ≡ suc b = omega arith in z))
+
+low-same : (v w : ℕ) → wordBit v 0 ≡ wordBit w 0 → v % 2 ≡ w % 2
+low-same v w e = go (wordBit v 0) (wordBit w 0) refl refl e
+  where
+    go : (x y : Bool) → eqb (v / 2 ^ 0 % 2) 1 ≡ x → eqb (w / 2 ^ 0 % 2) 1 ≡ y → x ≡ y → v % 2 ≡ w % 2
+    go true true p q z = let a = eqb-true (v / 2 ^ 0 % 2) 1 p in let b = eqb-true (w / 2 ^ 0 % 2) 1 q in omega arith
+    go true false p q z = absurd (true-false z)
+    go false true p q z = absurd (true-false (sym z))
+    go false false p q z = let a = eqb-false (v / 2 ^ 0 % 2) 1 p in let b = eqb-false (w / 2 ^ 0 % 2) 1 q in omega arith
+
+pub word-same : (k v w : ℕ) → v < 2 ^ k → w < 2 ^ k → ((b : ℕ) → b < k → wordBit v b ≡ wordBit w b) → v ≡ w
+word-same zero v w l m f = omega (arith, l, m)
+word-same (suc k) v w l m f =
     let p : 2 ^ suc k ≡ 2 ^ k * 2 = pow-suc 2 k in
-    let half : w / 2 < 2 ^ k = omega arith in
-    let low : w % 2 ≡ 1 → ⊥ = λ z. true-false (sym (eq-eqb (w / 2 ^ 0 % 2) 1 (omega arith)) ∙ f 0 (omega arith)) in
-    let high : w / 2 ≡ 0 = word-zero k (w / 2) half (λ b m. ap (λ (x : ℕ). eqb (x % 2) 1) (shr-shr w 1 b ∙ ap (λ (x : ℕ). w / 2 ^ x) (let z : 1 + b ≡ suc b = omega arith in z)) ∙ f (suc b) (omega arith)) in
+    let high = word-same k (v / 2) (w / 2) (omega arith) (omega arith) (λ b h. next-bit v b ∙ f (suc b) (omega arith) ∙ sym (next-bit w b)) in
+    let low = low-same v w (f 0 (omega arith)) in
     omega arith
 
-zero-bit : (w b : ℕ) → w ≡ 0 → wordBit w b ≡ false
-zero-bit w b e = rw (e, zero-div (2 ^ b))
+word-zero : (k w : ℕ) → w < 2 ^ k → ((b : ℕ) → b < k → wordBit w b ≡ false) → w ≡ 0
+word-zero k w l f = word-same k w 0 l (pow-pos k) (λ b m. f b m ∙ sym (zero-bit b))
+
+-- ---- steering segments by their words
 
 here : (x : Node) (ns : List Node) (s b : ℕ) → steersAt x s b ≡ true → steers (x ∷ ns) s b ≡ true
 unfolding steers
@@ -83,7 +99,7 @@ module _ {a : Arrays} {t : Summary} {d : Draft} {n : ℕ} (w : Represents a t d 
       go false q = q
       go true q =
           let b = find-bit (d .nodes) (represented-short w) (d .nodes) s no-first q in
-          absurd (true-false (sym (b .is) ∙ sym (w .steering-is s (b .b) l (b .small)) ∙ zero-bit (getD (a .steering) s 0) (b .b) e))
+          absurd (true-false (sym (b .is) ∙ sym (w .steering-is s (b .b) l (b .small)) ∙ ap (λ (x : ℕ). wordBit x (b .b)) e ∙ zero-bit (b .b)))
 
   pub is-steering : (s : ℕ) → s ≤ 128 → (getD (a .steering) s 0 ≡ 0 → ⊥) → isSteering (d .nodes) s ≡ true
   is-steering s l ne = go (isSteering (d .nodes) s) refl

@@ -5,3 +5,4 @@ pub mod Counting
 pub mod ReadingLines
 pub mod ReadingNetwork
 pub mod Records
+pub mod Fixed
