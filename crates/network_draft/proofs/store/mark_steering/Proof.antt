@@ -30,13 +30,13 @@ returns-2 c =
     let at-mark-bit = at-if1 .before in
     let at-x = at-mark-bit .before .before .before in
     let at-start = at-x .before .before in
-    let p = rw (at-x .x .given .1) at (at-start .pre .0) in rw (at-x .x .given .1) (marked-two _ _ _ _ _ _ _ _ _ _ (at-if1 .if1 .taken) (p .3) (at-mark-bit .mark-bit .ensures) (c .mark-bit2 .ensures))
+    let p = rw (at-x .x .given .1) at (at-start .pre .0) in rw (at-x .x .given .1) (marked-two _ _ _ _ _ _ _ _ _ _ (omega (arith, at-if1 .if1 .taken)) (p .3) (at-mark-bit .mark-bit .ensures) (c .mark-bit2 .ensures))
 
 returns-3 : tie.Need-returns-3
 returns-3 c =
     let at-x = c .before .before .before .before in
     let at-start = at-x .before .before in
-    let p = rw (at-x .x .given .1) at (at-start .pre .0) in rw (at-x .x .given .1) (marked-one _ _ _ _ _ _ _ _ _ (p .2) (p .3) (c .if1 .left) (c .before .mark-bit .ensures))
+    let p = rw (at-x .x .given .1) at (at-start .pre .0) in rw (at-x .x .given .1) (marked-one _ _ _ _ _ _ _ _ _ (p .2) (p .3) (omega (arith, c .if1 .left)) (c .before .mark-bit .ensures))
 
 pub mark-steering-spec : {M : Type 1} → statement M
 mark-steering-spec =

@@ -1,6 +1,7 @@
 -- `network_reader::reader::read_network` meets its contract: a text is refused as the model refuses it, for its length or as its lines
 -- and its start end, and otherwise the record is of the model's network.
 -- Assumes nothing.
+use native.Mathlib.Omega.{arith}
 use borrow.Author.Needs.{needs}
 use Rattle.model.specs.Text.{parts, lineEnd}
 use Rattle.model.specs.NetworkText.{noLines, readLines}
@@ -14,10 +15,10 @@ rejected-requires c κs = search needs
 returns : tie.Need-returns
 returns c =
     let text = c .before .before .before .args .text .now in
-    reading-refused text _ 3 0 (c .rejected .ensures) (too-long text (c .before .if1 .taken))
+    reading-refused text _ 3 0 (c .rejected .ensures) (too-long text (omega (arith, c .before .if1 .taken)))
 
 read-lines-requires : tie.Need-read-lines-requires
-read-lines-requires c κs = (c .before .before .before .before .before .if1 .left, represents-none)
+read-lines-requires c κs = (omega (arith, c .before .before .before .before .before .if1 .left), represents-none)
 
 finish-requires : tie.Need-finish-requires
 finish-requires c κs =
