@@ -51,6 +51,8 @@ abbrev pub RowsFor : Verdict → Gots → Type 0
 RowsFor (Passed lines clocks) g = ZerosBehind g
 RowsFor (Refused number place) g = g ≡ noGots
 
+-- ---- the whole answer
+
 -- `mark` returned m for two texts
 pub record MarkReturned (n p : Bytes) (m : Mark) : Type 0 where
   pub result : markOf m ≡ mark n p
