@@ -12,7 +12,7 @@ use lib.ListN.{length, take, drop, getD, set, drop-of-length-le, length-set}
 use lib.Seq.{drop-cons, take-suc-set, getD-set-same, getD-set-other, ext-getD}
 use lib.Dec.{eqb}
 use borrow.Author.Tests.{eq-eqb, ne-eqb, le-leb, lt-leb, eqb-true, eqb-false}
-use Rattle.model.specs.Text.{Bytes, bind, inFirst, parts, fields, decimal, Word, Out, Hold, Write, Read, wordOf, bitsFrom, bitsField, bit, trit}
+use Rattle.model.specs.Text.{Bytes, bind, inFirst, parts, fields, decimal, LineWord, Out, Hold, Write, Read, wordOf, bitsFrom, bitsField, bit, trit}
 use Rattle.model.specs.Network.{segment, multiplexer, tabulate}
 use Rattle.model.specs.NetworkText.{Line, node, hold, field, kind, decimals, segLine, muxLine, numberLine, bitsLine, lineBy, lineOf, isSome}
 use Rattle.model.proofs.Lists.{zero-at, getD-tabulate}
@@ -272,7 +272,7 @@ bits-at l starts o e p i =
       good = rw (p .content) (i .good);
     }
 
-pub word-line : (l : Bytes) (w : Option Word) (r : ParsedLine) → wordOf (field (fields l) 0) ≡ w → IsParsed l (bind w (lineBy (fields l))) r
+pub word-line : (l : Bytes) (w : Option LineWord) (r : ParsedLine) → wordOf (field (fields l) 0) ≡ w → IsParsed l (bind w (lineBy (fields l))) r
     → IsParsedLine l r
 unfolding lineOf
 word-line l w r e i = rw e i

@@ -22,8 +22,8 @@ use Rattle.network_line.specs.declared.Decimals.{Decimals}
 -- ---- the parts of a line
 
 -- the count of a line's fields and the places of the first seven
-abbrev pub Placed : Bytes → List ℕ → ℕ → Type 0
-Placed line starts count = IsSplit line record { count = count; starts = starts }
+abbrev pub FieldsPlaced : Bytes → List ℕ → ℕ → Type 0
+FieldsPlaced line starts count = IsSplit line record { count = count; starts = starts }
 
 abbrev pub kindFor : Kind → Option Bool
 kindFor Shadow = some true

@@ -2,7 +2,7 @@
 pub mod node;
 
 use text::Number;
-use text::Word;
+use text::LineWord;
 ghost use mathlib.Core.Bool.{cond};
 ghost use mathlib.Core.List.{[]};
 ghost use mathlib.Core.Path.{_≡_};
@@ -12,7 +12,7 @@ ghost use Rattle.model.specs.Text.{fields, Seg, Mux, Out, Hold, Write, Read};
 ghost use Rattle.model.specs.NetworkText.{field, kind, lineBy};
 ghost use Rattle.text.specs.Numbers.{IsDecimal};
 ghost use Rattle.text.specs.Places.{FieldStarts};
-ghost use Rattle.network_line.specs.Line.{kindFor, Placed, AreDecimals, IsEntry, plainLine, IsParsed, IsParsedLine};
+ghost use Rattle.network_line.specs.Line.{kindFor, FieldsPlaced, AreDecimals, IsEntry, plainLine, IsParsed, IsParsedLine};
 
 // A node is a segment or a multiplexer, and each kind has its own fields. An input that a multiplexer lacks is 0.
 pub enum NodeData {
@@ -85,7 +85,7 @@ fn number(line: &[u8], starts: &[usize; 8], k: usize) -> Number
 
 // The numbers of all fields but the first, of at most seven.
 fn decimals_of(line: &[u8], starts: &[usize; 8], count: usize) -> Decimals
-    requires { ⌜ (1 ≤ count) × (count ≤ 7) × Placed (now line) (now starts) count ⌝ }
+    requires { ⌜ (1 ≤ count) × (count ≤ 7) × FieldsPlaced (now line) (now starts) count ⌝ }
     ensures { λ r. ⌜ AreDecimals (fields (now (line .entry))) r ⌝ }
 {
     let mut values = [0usize; 6];
@@ -106,7 +106,7 @@ fn decimals_of(line: &[u8], starts: &[usize; 8], count: usize) -> Decimals
 
 // `seg FROM LEN KIND`.
 fn seg_line(line: &[u8], starts: &[usize; 8], count: usize) -> Entry
-    requires { ⌜ Placed (now line) (now starts) count ⌝ }
+    requires { ⌜ FieldsPlaced (now line) (now starts) count ⌝ }
     ensures { λ r. ⌜ IsEntry [] (lineBy (fields (now (line .entry))) Seg) r ⌝ }
 {
     if count != 4 {
@@ -138,7 +138,7 @@ fn seg_line(line: &[u8], starts: &[usize; 8], count: usize) -> Entry
 
 // `mux SEG BIT A B [C [D]]`.
 fn mux_line(line: &[u8], starts: &[usize; 8], count: usize) -> Entry
-    requires { ⌜ Placed (now line) (now starts) count ⌝ }
+    requires { ⌜ FieldsPlaced (now line) (now starts) count ⌝ }
     ensures { λ r. ⌜ IsEntry [] (lineBy (fields (now (line .entry))) Mux) r ⌝ }
 {
     if count < 5 {
@@ -164,7 +164,7 @@ fn mux_line(line: &[u8], starts: &[usize; 8], count: usize) -> Entry
 
 // `read SEG` where a target is meant, else `out N`.
 fn number_line(line: &[u8], starts: &[usize; 8], count: usize, target: bool) -> Entry
-    requires { ⌜ Placed (now line) (now starts) count ⌝ }
+    requires { ⌜ FieldsPlaced (now line) (now starts) count ⌝ }
     ensures { λ r. ⌜ IsEntry [] (lineBy (fields (now (line .entry))) (cond target Read Out)) r ⌝ }
 {
     if count != 2 {
@@ -193,7 +193,7 @@ fn plain(entry: Entry) -> ParsedLine
 
 // `hold SEG BITS` where unknown bits are allowed, else `write SEG BITS`.
 fn bits_line(line: &[u8], starts: &[usize; 8], count: usize, unknown: bool) -> ParsedLine
-    requires { ⌜ Placed (now line) (now starts) count ⌝ }
+    requires { ⌜ FieldsPlaced (now line) (now starts) count ⌝ }
     ensures { λ r. ⌜ IsParsed (now (line .entry)) (lineBy (fields (now (line .entry))) (cond unknown Hold Write)) r ⌝ }
 {
     if count != 3 {
@@ -223,13 +223,13 @@ pub fn parse(line: &[u8]) -> ParsedLine
     let f = text::split(line);
     let w = text::word_of(text::field(line, &f.starts, 0));
     match w {
-        Word::Seg => plain(seg_line(line, &f.starts, f.count)),
-        Word::Mux => plain(mux_line(line, &f.starts, f.count)),
-        Word::Out => plain(number_line(line, &f.starts, f.count, false)),
-        Word::Hold => bits_line(line, &f.starts, f.count, true),
-        Word::Write => bits_line(line, &f.starts, f.count, false),
-        Word::Read => plain(number_line(line, &f.starts, f.count, true)),
-        Word::Csu => plain(Entry::Wrong),
-        Word::Unknown => plain(Entry::Wrong),
+        LineWord::Seg => plain(seg_line(line, &f.starts, f.count)),
+        LineWord::Mux => plain(mux_line(line, &f.starts, f.count)),
+        LineWord::Out => plain(number_line(line, &f.starts, f.count, false)),
+        LineWord::Hold => bits_line(line, &f.starts, f.count, true),
+        LineWord::Write => bits_line(line, &f.starts, f.count, false),
+        LineWord::Read => plain(number_line(line, &f.starts, f.count, true)),
+        LineWord::Csu => plain(Entry::Wrong),
+        LineWord::Unknown => plain(Entry::Wrong),
     }
 }

@@ -7,7 +7,6 @@ use native.Mathlib.Omega.{arith}
 use native.Mathlib.Nat.{div-add-mod'}
 use lib.ListN.{length, getD}
 use lib.Seq.{ext-getD}
-use Rattle.model.specs.Text.{Bytes}
 use Rattle.model.specs.Network.{Node, Target, Network as ModelNetwork, at, noNode, totalBits, steers, steeringBits}
 use Rattle.model.specs.NetworkText.{targetSegment}
 use Rattle.model.specs.Path.{pathIn, pathLength}
@@ -21,7 +20,8 @@ use Rattle.network_reader.specs.declared.reader.Network.{Network}
 use Rattle.network_reader.specs.declared.reader.Acceptance.{Acceptance}
 use Rattle.network_reader.specs.declared.reader.Acceptance.the-variants.{Accepted, Refused as Rejected}
 use Rattle.network_reader.specs.declared.reader.Reading.{Reading}
-use Rattle.network_reader.specs.Reads.{recordedNetwork, readingBy, RecordComplete, RecordCompleteIf, IsReading}
+use Rattle.network_reader.specs.Reads.{recordedNetwork, readingBy, RecordComplete, RecordCompleteIf}
+use Rattle.network_reader.specs.Demand.{OneReading}
 
 module _ (r q : Network) (c : RecordComplete r) (e : RecordComplete q) (same : recordedNetwork r ≡ recordedNetwork q) where
   nodes-same : recordedNetwork r .nodes ≡ recordedNetwork q .nodes
@@ -97,7 +97,7 @@ module _ (r q : Network) (c : RecordComplete r) (e : RecordComplete q) (same : r
         «start_length» = long i;
       }
 
-pub reading-fixed : (t : Bytes) (r q : Reading) → IsReading t r → IsReading t q → r ≡ q
+pub reading-fixed : OneReading
 reading-fixed t r q c e = go (r .verdict) (q .verdict) (r .network) (q .network) (c .reads ∙ sym (e .reads)) (c .filled) (e .filled)
   where
     go : (v u : Acceptance) (n m : Network) → readingBy v n ≡ readingBy u m → RecordCompleteIf v n → RecordCompleteIf u m

@@ -9,7 +9,7 @@ use native.Mathlib.Numerals.{add-one}
 use lib.ListN.{length, drop, getD, drop-of-length-le}
 use lib.Seq.{drop-cons}
 use lib.Dec.{eqb}
-use Rattle.model.specs.Text.{Bytes, bytes, Word, Seg, Mux, Out, Hold, Write, Read, Csu, same, wordOf}
+use Rattle.model.specs.Text.{Bytes, bytes, LineWord, Seg, Mux, Out, Hold, Write, Read, Csu, same, wordOf}
 use Rattle.model.proofs.Lists.{and-false-right}
 
 -- ---- two byte strings from place i on, where r says whether they are the same
@@ -33,9 +33,9 @@ same-length (x ∷ a) (y ∷ b) h = rw (same-length a b (λ e. h (ap suc e)), an
 -- ---- the seven words, looked for in turn
 
 abbrev pub Entry : Type 0
-Entry = Bytes × Word
+Entry = Bytes × LineWord
 
-unfoldable pub firstOf : List Entry → Bytes → Option Word
+unfoldable pub firstOf : List Entry → Bytes → Option LineWord
 firstOf [] f = none
 firstOf (e ∷ es) f = cond (same f (e .0)) (some (e .1)) (firstOf es f)
 
@@ -46,6 +46,6 @@ pub word-first : (f : Bytes) → firstOf words f ≡ wordOf f
 unfolding firstOf wordOf
 word-first f = refl
 
-pub word-next : (e : Entry) (es : List Entry) (f : Bytes) (r : Option Word) → firstOf (e ∷ es) f ≡ r → (t : Bool) → same f (e .0) ≡ t → cond t (some (e .1)) (firstOf es f) ≡ r
+pub word-next : (e : Entry) (es : List Entry) (f : Bytes) (r : Option LineWord) → firstOf (e ∷ es) f ≡ r → (t : Bool) → same f (e .0) ≡ t → cond t (some (e .1)) (firstOf es f) ≡ r
 unfolding firstOf
 word-next e es f r whole t h = sym (rw h) ∙ whole

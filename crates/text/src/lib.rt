@@ -24,7 +24,7 @@ pub enum Number {
 }
 
 // The word that a field is.
-pub enum Word {
+pub enum LineWord {
     Seg,
     Mux,
     Out,
@@ -155,31 +155,31 @@ pub fn equal(a: &[u8], b: &[u8]) -> bool
 }
 
 // The word that a field is.
-pub fn word_of(f: &[u8]) -> Word
+pub fn word_of(f: &[u8]) -> LineWord
     ensures { λ r. ⌜ wordFor r ≡ wordOf (now (f .entry)) ⌝ }
 {
     if equal(f, b"seg") {
-        return Word::Seg;
+        return LineWord::Seg;
     }
     if equal(f, b"mux") {
-        return Word::Mux;
+        return LineWord::Mux;
     }
     if equal(f, b"out") {
-        return Word::Out;
+        return LineWord::Out;
     }
     if equal(f, b"hold") {
-        return Word::Hold;
+        return LineWord::Hold;
     }
     if equal(f, b"write") {
-        return Word::Write;
+        return LineWord::Write;
     }
     if equal(f, b"read") {
-        return Word::Read;
+        return LineWord::Read;
     }
     if equal(f, b"csu") {
-        return Word::Csu;
+        return LineWord::Csu;
     }
-    Word::Unknown
+    LineWord::Unknown
 }
 
 // Whether a byte is a bit, `X` where unknown ones are allowed.

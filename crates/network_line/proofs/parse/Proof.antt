@@ -5,8 +5,8 @@ use native.Mathlib.Omega.{arith}
 use borrow.Author.Needs.{needs}
 use Rattle.model.specs.NetworkText.{lineBy}
 use Rattle.model.specs.Text.{Bytes, bind, tab, fields, wordOf}
-use Rattle.text.specs.declared.Word.the-variants.{Seg, Mux, Out, Hold, Write, Read, Csu, Unknown}
-use Rattle.text.specs.declared.Word.{Word}
+use Rattle.text.specs.declared.LineWord.the-variants.{Seg, Mux, Out, Hold, Write, Read, Csu, Unknown}
+use Rattle.text.specs.declared.LineWord.{LineWord}
 use Rattle.text.specs.Words.{wordFor}
 use Rattle.network_line.specs.declared.ParsedLine.{ParsedLine}
 use Rattle.network_line.specs.Line.{IsParsed, IsParsedLine}
@@ -17,7 +17,7 @@ use Rattle.network_line.proofs.parse.Tie as tie
 abbrev lineAt : tie.After-word-of → Bytes
 lineAt c = c .before .before .before .before .before .before .args .line .now
 
-by-word : (c : tie.After-word-of) (w : Word) (r : ParsedLine) → c .word-of .result ≡ w
+by-word : (c : tie.After-word-of) (w : LineWord) (r : ParsedLine) → c .word-of .result ≡ w
     → IsParsed (lineAt c) (bind (wordFor w) (lineBy (fields (lineAt c)))) r → IsParsedLine (lineAt c) r
 by-word c w r e i = word-line _ (wordFor w) r (sym (c .word-of .ensures ∙ ap wordOf (c .before .field .ensures)) ∙ ap wordFor e) i
 
