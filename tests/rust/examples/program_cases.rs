@@ -1,7 +1,7 @@
 //! Writes texts and what the Rust version prints for them into a folder: `program_cases FOLDER SEED
 //! COUNT`, COUNT generated pairs from SEED on, one for each fault and change, and those at the
-//! limits. A pair is NAME.net and NAME.plan; `read` and `plan` must print NAME.read and NAME.planned
-//! for the first, `clock` NAME.clk for the second and `mark` NAME.mark for both. The script
+//! limits. A pair is NAME.net and NAME.plan; `read` must print NAME.read and `plan` NAME.planned for
+//! the first, `clock` NAME.clk for the second and `mark` NAME.mark for both. The script
 //! tests/programs runs the built programs on them.
 
 use std::collections::BTreeSet;
@@ -135,8 +135,8 @@ fn operations(random: &mut Random, count: usize, bits: usize) -> Vec<u8> {
     write_plan(&(0..count).map(line).collect::<Vec<_>>())
 }
 
-/// 128 segments and 4,000 bits in a row, so many segments to read and four operations for each: with
-/// four the longest plan text.
+/// 128 segments and 4,000 bits in a row, so many segments to read and four operations for each. Four
+/// give the longest plan text.
 fn all_on_path(random: &mut Random, reads: usize) -> Pair {
     let mut draft = chain(MAX_NODES, MAX_NETWORK_BITS);
     let segments = [128, 1, 100, 50];
