@@ -1,0 +1,239 @@
+//! Writes texts and what the Rust version prints for them into a folder: `program_cases FOLDER SEED
+//! COUNT`, COUNT generated pairs from SEED on, one for each fault and change, and those at the
+//! limits. A pair is NAME.net and NAME.plan; `read` must print NAME.read and `plan` NAME.planned for
+//! the first, `clock` NAME.clk for the second and `mark` NAME.mark for both. The script
+//! tests/programs runs the built programs on them.
+
+use std::collections::BTreeSet;
+use std::path::Path;
+
+use penthluk_reference::generate::cases::{case, damaged_with, draw_network};
+use penthluk_reference::generate::draft::{Draft, Entry};
+use penthluk_reference::generate::edges::{held_chain, long_network, plan_line};
+use penthluk_reference::generate::faults::{Fault, FAULTS};
+use penthluk_reference::generate::large::{chain, full, steered};
+use penthluk_reference::generate::maze::gray;
+use penthluk_reference::generate::near::{near, Change, CHANGES};
+use penthluk_reference::generate::plan_damage::{damage_plan, PLAN_FAULTS};
+use penthluk_reference::generate::plans::planned;
+use penthluk_reference::generate::random::Random;
+use penthluk_reference::generate::rounds::many_rounds;
+use penthluk_reference::limits::{
+    MAX_NETWORK_BITS, MAX_NETWORK_BYTES, MAX_NODES, MAX_OPERATIONS, MAX_PLAN_BYTES, MAX_TARGETS,
+};
+use penthluk_reference::plan_text::write_plan;
+use penthluk_reference::programs;
+use penthluk_reference::reader::read_network;
+
+/// Two texts and what the programs print for them.
+struct Pair {
+    name: String,
+    network: Vec<u8>,
+    plan: Vec<u8>,
+    read: Vec<u8>,
+    planned: Vec<u8>,
+    mark: Vec<u8>,
+    clocks: Vec<u8>,
+}
+
+impl Pair {
+    fn new(name: impl Into<String>, network: Vec<u8>, plan: Vec<u8>) -> Pair {
+        Pair {
+            name: name.into(),
+            read: programs::read(&network),
+            planned: programs::plan(&network),
+            mark: programs::mark(&network, &plan),
+            clocks: programs::clock(&plan),
+            network,
+            plan,
+        }
+    }
+
+    /// A network with the plan that the planner finds.
+    fn planned(name: &str, draft: Draft) -> Pair {
+        let network = draft.text();
+        let plan = programs::plan(&network);
+        Pair::new(name, network, plan)
+    }
+
+    fn write(&self, folder: &Path) {
+        let write = |ending: &str, bytes: &[u8]| {
+            let file = folder.join(format!("{}.{ending}", self.name));
+            std::fs::write(&file, bytes).unwrap_or_else(|error| panic!("{file:?}: {error}"));
+        };
+        write("net", &self.network);
+        write("plan", &self.plan);
+        write("read", &self.read);
+        write("planned", &self.planned);
+        write("mark", &self.mark);
+        write("clk", &self.clocks);
+    }
+
+    /// The count of `got` lines, if the plan passes.
+    fn gots(&self) -> Option<usize> {
+        self.mark.starts_with(b"pass").then(|| line_count(&self.mark) - 1)
+    }
+}
+
+fn main() {
+    let arguments: Vec<String> = std::env::args().skip(1).collect();
+    let [folder, seed, count] = arguments.as_slice() else {
+        eprintln!("usage: program_cases FOLDER SEED COUNT");
+        std::process::exit(2);
+    };
+    let (seed, count): (u64, u64) = (seed.parse().expect("SEED"), count.parse().expect("COUNT"));
+    let random = &mut Random::new(seed);
+    let mut pairs: Vec<Pair> = (seed..seed + count).map(generated).collect();
+    pairs.extend(FAULTS.map(|fault| faulty(random, fault)));
+    pairs.extend(faulty_plans(random));
+    pairs.extend(CHANGES.map(|change| changed(random, change)));
+    pairs.extend((0..=MAX_TARGETS).map(|reads| all_on_path(random, reads)));
+    pairs.extend(network_limits(random));
+    pairs.extend(plan_limits(random));
+    assert_covered(&pairs);
+    pairs.iter().for_each(|pair| pair.write(Path::new(folder)));
+}
+
+fn generated(seed: u64) -> Pair {
+    let case = case(seed);
+    Pair::new(format!("seed-{seed}"), case.network, case.plan)
+}
+
+/// A network with one fault.
+fn faulty(random: &mut Random, fault: Fault) -> Pair {
+    let (damaged, put) = damaged_with(random, &[fault]);
+    assert_eq!(put, 1);
+    Pair::new(format!("fault-{fault:?}"), damaged.text(), plan_line(3))
+}
+
+/// For each fault of a plan a plan with it.
+fn faulty_plans(random: &mut Random) -> Vec<Pair> {
+    let network = full().text();
+    let plan = programs::plan(&network);
+    let pair = |fault| {
+        let plan = damage_plan(random, &plan, fault).0;
+        Pair::new(format!("plan-fault-{fault:?}"), network.clone(), plan)
+    };
+    PLAN_FAULTS.map(pair).into()
+}
+
+/// A planned network, and the plan with one change.
+fn changed(random: &mut Random, change: Change) -> Pair {
+    loop {
+        let text = draw_network(random).text();
+        let Ok(network) = read_network(&text) else { continue };
+        let Some(plan) = planned(&network) else { continue };
+        if let Some((plan, _)) = near(random, &network, &plan, change) {
+            return Pair::new(format!("change-{change:?}"), text, write_plan(&plan));
+        }
+    }
+}
+
+/// Operations of random bits.
+fn operations(random: &mut Random, count: usize, bits: usize) -> Vec<u8> {
+    let line = |_| (0..bits).map(|_| random.bit()).collect();
+    write_plan(&(0..count).map(line).collect::<Vec<_>>())
+}
+
+/// 128 segments and 4,000 bits in a row, so many segments to read and four operations for each. Four
+/// give the longest plan text.
+fn all_on_path(random: &mut Random, reads: usize) -> Pair {
+    let mut draft = chain(MAX_NODES, MAX_NETWORK_BITS);
+    let segments = [128, 1, 100, 50];
+    draft.entries = segments[..reads].iter().map(|&segment| Entry::Read { segment }).collect();
+    let plan = operations(random, 4 * reads, MAX_NETWORK_BITS);
+    Pair::new(format!("all-on-path-{reads}"), draft.text(), plan)
+}
+
+/// Network texts at the limits of length and count, and beyond them.
+fn network_limits(random: &mut Random) -> Vec<Pair> {
+    let one = || plan_line(1);
+    // A last line that holds segment 1 again.
+    let held = held_chain(random).text();
+    let filled = |length: usize| {
+        let mut text = [&held[..], b"hold\t1\t"].concat();
+        text.resize(length - 1, b'0');
+        [text, b"\n".to_vec()].concat()
+    };
+    vec![
+        Pair::new("empty", Vec::new(), Vec::new()),
+        Pair::new("no-node", b"out\t0\n".to_vec(), Vec::new()),
+        Pair::new("held", held.clone(), operations(random, 3, MAX_NETWORK_BITS)),
+        Pair::new("held-longest", filled(MAX_NETWORK_BYTES), one()),
+        Pair::new("held-too-long", filled(MAX_NETWORK_BYTES + 1), one()),
+        Pair::new("bits-longest", long_network(MAX_NETWORK_BYTES), one()),
+        Pair::new("bits-too-long", long_network(MAX_NETWORK_BYTES + 1), one()),
+        Pair::new("node-129", chain(MAX_NODES + 1, MAX_NODES + 1).text(), one()),
+        Pair::new("bit-4001", chain(MAX_NODES, MAX_NETWORK_BITS + 1).text(), one()),
+        Pair::planned("steering-6", steered(6)),
+        Pair::planned("steering-7", steered(7)),
+        Pair::planned("full", full()),
+    ]
+}
+
+/// Plan texts at the limits of length and count, and beyond them.
+fn plan_limits(random: &mut Random) -> Vec<Pair> {
+    let long = chain(MAX_NODES, MAX_NETWORK_BITS).text();
+    let short = chain(1, 1).text();
+    let longest = operations(random, MAX_OPERATIONS, MAX_NETWORK_BITS);
+    let too_long = [&longest[..longest.len() - 1], b"1\n"].concat();
+    vec![
+        Pair::new("plan-longest", long.clone(), longest),
+        Pair::new("plan-too-long", long, too_long),
+        Pair::new("line-longest", short.clone(), plan_line(MAX_PLAN_BYTES - 5)),
+        Pair::new("line-too-long", short.clone(), plan_line(MAX_PLAN_BYTES - 4)),
+        Pair::new("line-16", short.clone(), operations(random, MAX_OPERATIONS, 1)),
+        Pair::new("line-17", short, operations(random, MAX_OPERATIONS + 1, 1)),
+        Pair::planned("operations-16", gray(16, Some(&"01".repeat(16)), &[32; 108])),
+        Pair::planned("operations-17", gray(17, None, &[])),
+        Pair::planned("many-rounds", many_rounds()),
+    ]
+}
+
+fn line_count(text: &[u8]) -> usize {
+    text.iter().filter(|&&byte| byte == b'\n').count()
+}
+
+/// The numbers of the refusals among what a program prints; 0 stands for what is no refusal.
+fn numbers<'p>(printed: impl Iterator<Item = &'p Vec<u8>>) -> BTreeSet<u32> {
+    let number = |printed: &Vec<u8>| {
+        let text = std::str::from_utf8(printed).expect("ASCII");
+        let fields = text.strip_prefix("fail\t").map(|fields| fields.split('\t').next());
+        fields.flatten().map_or(0, |number| number.parse().expect("a number"))
+    };
+    printed.map(number).collect()
+}
+
+/// Every refusal that a program can print is there, passes with 0 to 4 `got` lines, and the longest
+/// texts.
+fn assert_covered(pairs: &[Pair]) {
+    let network_numbers = || 0..=9;
+    assert_eq!(numbers(pairs.iter().map(|pair| &pair.read)), network_numbers().collect());
+    assert_eq!(numbers(pairs.iter().map(|pair| &pair.planned)), (0..=11).collect());
+    let mark_numbers = network_numbers().chain(14..=17).collect();
+    assert_eq!(numbers(pairs.iter().map(|pair| &pair.mark)), mark_numbers);
+    assert_eq!(numbers(pairs.iter().map(|pair| &pair.clocks)), BTreeSet::from([0, 14]));
+    let gots: BTreeSet<usize> = pairs.iter().filter_map(Pair::gots).collect();
+    assert_eq!(gots, (0..=MAX_TARGETS).collect());
+
+    let has = |test: &dyn Fn(&Pair) -> bool| pairs.iter().any(test);
+    let network = |bytes: usize, printed: &str| {
+        has(&|pair| pair.network.len() == bytes && pair.read == printed.as_bytes())
+    };
+    assert!(network(0, "fail\t4\t1\n"));
+    assert!(network(MAX_NETWORK_BYTES, "fail\t6\t262\n"));
+    assert!(network(MAX_NETWORK_BYTES + 1, "fail\t3\t0\n"));
+    assert!(has(&|pair| pair.network.len() > 6_500 && pair.read.starts_with(b"ok\t128\t4000\t")));
+    let plan = |bytes: usize, gots: usize, printed: &str| {
+        has(&|pair| {
+            let passes = pair.gots() == Some(gots) && pair.mark.starts_with(printed.as_bytes());
+            pair.plan.len() == bytes && passes
+        })
+    };
+    assert!(plan(0, 0, "pass\t0\t0\n"));
+    assert!(plan(MAX_PLAN_BYTES, 4, "pass\t16\t64080\n"));
+    let refused = |pair: &Pair| pair.mark == b"fail\t14\t0\n" && pair.clocks == pair.mark;
+    assert!(has(&|pair| pair.plan.len() == MAX_PLAN_BYTES + 1 && refused(pair)));
+    assert!(has(&|pair| line_count(&pair.planned) == 16 && pair.planned.len() > 55_000));
+    assert!(has(&|pair| pair.planned.is_empty()));
+}
