@@ -41,7 +41,8 @@ element-write-digits-2 : tie.Need-element-write-digits-2 Inv-loop μ-loop
 element-write-digits-2 c = omega (arith, c .before .before .loop .inv .least, c .before .before .loop .inv .most)
 
 returns : tie.Need-returns Inv-loop μ-loop
-returns c = (omega (arith, c .before .before .loop .inv .most), simp length-set (c .before .before .loop .inv .size), fill-last _ _ _ _ (c .before .before .loop .inv) _ (omega arith) (c .digit2 .ensures))
+returns c =
+    (omega (arith, c .before .before .loop .inv .most), simp length-set (c .before .before .loop .inv .size), fill-last _ _ _ _ (c .before .before .loop .inv) _ (omega arith) (c .digit2 .ensures))
 
 pub fill-digits-spec : {M : Type 1} → statement M
 fill-digits-spec =

@@ -19,7 +19,10 @@ same-length : tie.Need-same-length
 same-length c = search needs
 
 returns : tie.Need-returns
-returns c = let p = c .before .before .before .before .before .before .put .ensures in let q = c .before .before .put-number .ensures in (puts-more record { behind = p .0; holds = p .1 } record { behind = q .0 .0; holds = q .1 } (omega (arith, p .0, c .before .before .before .before .before .before .before .before .before .before .pre)), omega (arith, p .0, q .0 .1))
+returns c =
+    let p = c .before .before .before .before .before .before .put .ensures in
+    let q = c .before .before .put-number .ensures in
+    (puts-more record { behind = p .0; holds = p .1 } record { behind = q .0 .0; holds = q .1 } (omega (arith, p .0, c .before .before .before .before .before .before .before .before .before .before .pre)), omega (arith, p .0, q .0 .1))
 
 pub put-field-spec : {M : Type 1} → statement M
 put-field-spec =

@@ -36,13 +36,18 @@ loop-less : tie.Need-loop-less Inv-loop μ-loop
 loop-less c = search needs
 
 loop-again : tie.Need-loop-again Inv-loop μ-loop
-loop-again c = let v = c .before .before .before .before .before .before .loop .inv in let f = c .before .before .put-field in (omega arith, omega (arith, f .kept .0, v .1), omega (arith, v .2, f .ensures .1), field-next _ _ _ _ _ _ _ _ (c .before .before .before .before .before .loop-test .taken) (v .3) (omega (arith, v .2, c .before .before .before .before .before .before .before .before .before .pre)) (f .ensures .0))
+loop-again c =
+    let v = c .before .before .before .before .before .before .loop .inv in
+    let f = c .before .before .put-field in
+    (omega arith, omega (arith, f .kept .0, v .1), omega (arith, v .2, f .ensures .1), field-next _ _ _ _ _ _ _ _ (c .before .before .before .before .before .loop-test .taken) (v .3) (omega (arith, v .2, c .before .before .before .before .before .before .before .before .before .pre)) (f .ensures .0))
 
 same-length : tie.Need-same-length Inv-loop μ-loop
 same-length c = search needs
 
 returns : tie.Need-returns Inv-loop μ-loop
-returns c = let v = c .before .loop .inv in (fields-done _ _ _ _ _ _ (c .loop-test .left) (v .3), omega (arith, v .0, v .2))
+returns c =
+    let v = c .before .loop .inv in
+    (fields-done _ _ _ _ _ _ (c .loop-test .left) (v .3), omega (arith, v .0, v .2))
 
 pub put-fields-spec : {M : Type 1} → statement M
 put-fields-spec =

@@ -22,7 +22,12 @@ same-length : tie.Need-same-length
 same-length c = search needs
 
 returns : tie.Need-returns
-returns c = let a = c .before .before .before .before .before .before .before .before .before .before .before .put in let b = c .before .before .before .before .before .before .before .put-fields in let d = c .before .before .put2 in let h = c .before .before .before .before .before .before .before .before .before .before .before .before .before .before .before .before .pre in (puts-line _ _ record { behind = a .ensures .0; holds = a .ensures .1 } (b .ensures .0) record { behind = d .ensures .0; holds = d .ensures .1 } (omega (arith, a .ensures .0, h)) (omega (arith, a .ensures .0, b .ensures .1, a .kept .0, h)), omega (arith, a .ensures .0, b .ensures .1, d .ensures .0))
+returns c =
+    let a = c .before .before .before .before .before .before .before .before .before .before .before .put in
+    let b = c .before .before .before .before .before .before .before .put-fields in
+    let d = c .before .before .put2 in
+    let h = c .before .before .before .before .before .before .before .before .before .before .before .before .before .before .before .before .pre in
+    (puts-line _ _ record { behind = a .ensures .0; holds = a .ensures .1 } (b .ensures .0) record { behind = d .ensures .0; holds = d .ensures .1 } (omega (arith, a .ensures .0, h)) (omega (arith, a .ensures .0, b .ensures .1, a .kept .0, h)), omega (arith, a .ensures .0, b .ensures .1, d .ensures .0))
 
 pub put-line-spec : {M : Type 1} → statement M
 put-line-spec =

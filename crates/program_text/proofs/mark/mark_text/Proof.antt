@@ -17,7 +17,8 @@ put-pass-requires : tie.Need-put-pass-requires
 put-pass-requires c κs = search needs
 
 put-gots-requires : tie.Need-put-gots-requires
-put-gots-requires c κs = (few-rows _ _ _ (c .before .before .before .before .before .before .before .mark .ensures) _ _ (c .before .before .before .before .verdict .given .1), omega (arith, c .before .put-pass .ensures .1, c .put-gots-arg .given .0 .1))
+put-gots-requires c κs =
+    (few-rows _ _ _ (c .before .before .before .before .before .before .before .mark .ensures) _ _ (c .before .before .before .before .verdict .given .1), omega (arith, c .before .put-pass .ensures .1, c .put-gots-arg .given .0 .1))
 
 enum-known-verdict-2 : tie.Need-enum-known-verdict-2
 enum-known-verdict-2 c = search needs
@@ -26,10 +27,12 @@ put-refusal-requires : tie.Need-put-refusal-requires
 put-refusal-requires c κs = search needs
 
 returns : tie.Need-returns
-returns c = at-front _ _ (mark-passed _ _ _ (c .before .before .before .before .before .before .before .before .mark .ensures) _ _ (c .before .before .before .before .before .verdict .given .1)) (puts-more (c .before .before .put-pass .ensures .0) (c .put-gots .ensures) (omega (arith, c .before .before .put-pass .ensures .1, c .before .before .before .put-pass-arg .given .0 .1)))
+returns c =
+    at-front _ _ (mark-passed _ _ _ (c .before .before .before .before .before .before .before .before .mark .ensures) _ _ (c .before .before .before .before .before .verdict .given .1)) (puts-more (c .before .before .put-pass .ensures .0) (c .put-gots .ensures) (omega (arith, c .before .before .put-pass .ensures .1, c .before .before .before .put-pass-arg .given .0 .1)))
 
 returns-2 : tie.Need-returns-2
-returns-2 c = at-front _ _ (mark-refused _ _ _ (c .before .before .before .before .before .before .mark .ensures) _ _ (c .before .before .before .verdict2 .given .1)) (c .put-refusal .ensures)
+returns-2 c =
+    at-front _ _ (mark-refused _ _ _ (c .before .before .before .before .before .before .mark .ensures) _ _ (c .before .before .before .verdict2 .given .1)) (c .put-refusal .ensures)
 
 pub mark-text-spec : {M : Type 1} → statement M
 mark-text-spec =

@@ -44,7 +44,9 @@ array-read-put-got-3 : tie.Need-array-read-put-got-3 Inv-loop μ-loop
 array-read-put-got-3 c = search needs
 
 put-got-requires : tie.Need-put-got-requires Inv-loop μ-loop
-put-got-requires c κs = let v = c .before .before .before .loop .inv in omega (arith, v .1, v .2, c .before .before .before .before .before .before .before .before .pre)
+put-got-requires c κs =
+    let v = c .before .before .before .loop .inv in
+    omega (arith, v .1, v .2, c .before .before .before .before .before .before .before .before .pre)
 
 add-i : tie.Need-add-i Inv-loop μ-loop
 add-i c = search needs
@@ -53,13 +55,18 @@ loop-less : tie.Need-loop-less Inv-loop μ-loop
 loop-less c = search needs
 
 loop-again : tie.Need-loop-again Inv-loop μ-loop
-loop-again c = let v = c .before .before .before .before .before .before .loop .inv in let f = c .before .before .put-got in (omega arith, omega (arith, f .kept .0, v .1), omega (arith, v .2, f .ensures .1), got-next _ (c .before .before .before .before .before .before .before .before .before .before .before .args .gots) (c .before .before .before .before .before .before .loop .i) _ (v .3) (omega (arith, v .0, v .2, c .before .before .before .before .before .before .before .before .before .before .before .pre)) (f .ensures .0))
+loop-again c =
+    let v = c .before .before .before .before .before .before .loop .inv in
+    let f = c .before .before .put-got in
+    (omega arith, omega (arith, f .kept .0, v .1), omega (arith, v .2, f .ensures .1), got-next _ (c .before .before .before .before .before .before .before .before .before .before .before .args .gots) (c .before .before .before .before .before .before .loop .i) _ (v .3) (omega (arith, v .0, v .2, c .before .before .before .before .before .before .before .before .before .before .before .pre)) (f .ensures .0))
 
 same-length : tie.Need-same-length Inv-loop μ-loop
 same-length c = search needs
 
 returns : tie.Need-returns Inv-loop μ-loop
-returns c = let v = c .before .before .loop .inv in gots-done _ (c .before .before .before .before .before .before .before .args .gots) (c .before .before .loop .i) _ (v .0) (omega arith) (v .3)
+returns c =
+    let v = c .before .before .loop .inv in
+    gots-done _ (c .before .before .before .before .before .before .before .args .gots) (c .before .before .loop .i) _ (v .0) (omega arith) (v .3)
 
 pub put-gots-spec : {M : Type 1} → statement M
 put-gots-spec =

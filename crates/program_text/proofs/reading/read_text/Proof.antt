@@ -21,10 +21,12 @@ put-refusal-requires : tie.Need-put-refusal-requires
 put-refusal-requires c κs = search needs
 
 returns : tie.Need-returns
-returns c = at-front _ _ (read-accepted _ _ (c .before .before .before .before .before .read-network .ensures) (c .before .before .enum-told .given .1)) (c .put-counts .ensures)
+returns c =
+    at-front _ _ (read-accepted _ _ (c .before .before .before .before .before .read-network .ensures) (c .before .before .enum-told .given .1)) (c .put-counts .ensures)
 
 returns-2 : tie.Need-returns-2
-returns-2 c = at-front _ _ (read-refused _ _ (c .before .before .before .before .before .before .read-network .ensures) _ _ (c .before .before .before .verdict .given .1)) (c .put-refusal .ensures)
+returns-2 c =
+    at-front _ _ (read-refused _ _ (c .before .before .before .before .before .before .read-network .ensures) _ _ (c .before .before .before .verdict .given .1)) (c .put-refusal .ensures)
 
 pub read-text-spec : {M : Type 1} → statement M
 read-text-spec =
