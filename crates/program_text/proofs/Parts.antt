@@ -1,6 +1,6 @@
 -- A line written in parts, each behind the one before it.
 -- Assumes nothing.
-use mathlib.Core.Path.{_≡_, refl, sym, ap, _∙_}
+use mathlib.Core.Path.{_≡_, refl, sym, _∙_}
 use mathlib.Core.List.{List, [], _∷_, _++_, map, append-assoc, append-nil}
 use Prim.Native.Nat.{ℕ, _+_, _≤_, _<_}
 use native.Mathlib.Omega.{arith}
@@ -10,7 +10,6 @@ use lib.ListN.{length, take, getD, length-append}
 use lib.Seq.{take-suc, take-all}
 use Rattle.model.specs.Text.{tab, lineEnd}
 use Rattle.model.specs.Printed.{number, fieldsOf}
-use Rattle.plan_text.specs.Writing.{writeAt}
 use Rattle.plan_text.proofs.Writing.{write-none, write-behind}
 use Rattle.program_text.specs.Puts.{Puts, tabbed}
 

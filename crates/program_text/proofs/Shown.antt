@@ -7,7 +7,7 @@ use native.Mathlib.Omega.{arith}
 use native.Mathlib.Nat.{zero-add}
 use native.Mathlib.Numerals.{add-one}
 use lib.ListN.{length}
-use Rattle.model.specs.Result.{ok, refused}
+use Rattle.model.specs.Result.{ok}
 use Rattle.model.specs.Text.{Bytes}
 use Rattle.model.specs.Network.{tabulate}
 use Rattle.model.specs.Mark.{Got}
@@ -17,7 +17,6 @@ use Rattle.model.proofs.Lists.{length-tabulate, tabulate-snoc}
 use Rattle.network_path.specs.Layout.{nodeAt}
 use Rattle.network_reader.specs.declared.reader.Acceptance.{Acceptance}
 use Rattle.network_reader.specs.declared.reader.Acceptance.the-variants.{Accepted, Refused}
-use Rattle.network_reader.specs.declared.reader.Network.{Network}
 use Rattle.network_reader.specs.declared.reader.Reading.{Reading}
 use Rattle.network_reader.specs.Reads.{recordedNetwork, readingBy, RecordComplete, RecordCompleteIf, IsReading}
 use Rattle.plan_text.specs.Writing.{writeAt}
