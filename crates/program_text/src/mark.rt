@@ -15,7 +15,7 @@ ghost use Rattle.program_text.specs.Puts.{Puts};
 
 // Room for `pass` with two fields and four times `got` with three, each field a tab and at most 20 digits:
 // (4 + 2 * 21 + 1) + 4 * (3 + 3 * 21 + 1) = 315 bytes.
-const ROOM: usize = 512;
+pub const ROOM: usize = 512;
 
 fn put_pass(out: &mut [u8], operations: usize, clocks: usize) -> usize
     requires { ⌜ 47 ≤ length (now out) ⌝ }

@@ -12,7 +12,7 @@ ghost use Rattle.plan_text.specs.Writing.{writeAt};
 ghost use Rattle.program_text.specs.Puts.{Puts};
 
 // Room for `ok` and four fields, each a tab and at most 20 digits, and the line's end: 2 + 4 * 21 + 1 = 87 bytes.
-const ROOM: usize = 128;
+pub const ROOM: usize = 128;
 
 // `ok` with the counts of nodes, segment bits, distinct steering bits and bits of the start's path.
 fn put_counts(out: &mut [u8], nodes: usize, bits: usize, steering: usize, path: usize) -> usize
