@@ -1,0 +1,29 @@
+-- `program_text::lines::put_field` meets its contract: a tab, and the digits behind it.
+-- Assumes nothing.
+use native.Mathlib.Omega.{arith}
+use borrow.Author.Needs.{needs}
+use Rattle.program_text.proofs.Parts.{puts-more}
+use Rattle.program_text.proofs.lines.put_field.Statement.{statement}
+use Rattle.program_text.proofs.lines.put_field.Tie as tie
+
+slice-aggregate-put : tie.Need-slice-aggregate-put
+slice-aggregate-put c = search needs
+
+put-requires : tie.Need-put-requires
+put-requires c κs = search needs
+
+put-number-requires : tie.Need-put-number-requires
+put-number-requires c κs = search needs
+
+same-length : tie.Need-same-length
+same-length c = search needs
+
+returns : tie.Need-returns
+returns c =
+    let p = c .before .before .before .before .before .before .put .ensures in
+    let q = c .before .before .put-number .ensures in
+    (puts-more record { behind = p .0; holds = p .1 } record { behind = q .0 .0; holds = q .1 } (omega (arith, p .0, c .before .before .before .before .before .before .before .before .before .before .pre)), omega (arith, p .0, q .0 .1))
+
+pub put-field-spec : {M : Type 1} → statement M
+put-field-spec =
+    tie.close (tie.spec slice-aggregate-put put-requires put-number-requires same-length returns)

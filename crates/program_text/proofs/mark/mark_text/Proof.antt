@@ -1,0 +1,48 @@
+-- `program_text::mark::mark_text` meets its contract: the line of a pass and those of its rows, or the refusal.
+-- Assumes nothing.
+use native.Mathlib.Omega.{arith}
+use borrow.Author.Needs.{needs}
+use Rattle.program_text.proofs.Shown.{at-front, mark-passed, mark-refused, few-rows}
+use Rattle.program_text.proofs.Parts.{puts-more}
+use Rattle.program_text.proofs.mark.mark_text.Statement.{statement}
+use Rattle.program_text.proofs.mark.mark_text.Tie as tie
+
+mark-requires : tie.Need-mark-requires
+mark-requires c κs = search needs
+
+enum-known-verdict : tie.Need-enum-known-verdict
+enum-known-verdict c = search needs
+
+put-pass-requires : tie.Need-put-pass-requires
+put-pass-requires c κs = search needs
+
+put-gots-requires : tie.Need-put-gots-requires
+put-gots-requires c κs =
+    (few-rows _ _ _ (c .before .before .before .before .before .before .before .mark .ensures) _ _ (c .before .before .before .before .verdict .given .1), omega (arith, c .before .put-pass .ensures .1, c .put-gots-arg .given .0 .1))
+
+enum-known-verdict-2 : tie.Need-enum-known-verdict-2
+enum-known-verdict-2 c = search needs
+
+put-refusal-requires : tie.Need-put-refusal-requires
+put-refusal-requires c κs = search needs
+
+returns : tie.Need-returns
+returns c =
+    at-front _ _ (mark-passed _ _ _ (c .before .before .before .before .before .before .before .before .mark .ensures) _ _ (c .before .before .before .before .before .verdict .given .1)) (puts-more (c .before .before .put-pass .ensures .0) (c .put-gots .ensures) (omega (arith, c .before .before .put-pass .ensures .1, c .before .before .before .put-pass-arg .given .0 .1)))
+
+returns-2 : tie.Need-returns-2
+returns-2 c =
+    at-front _ _ (mark-refused _ _ _ (c .before .before .before .before .before .before .mark .ensures) _ _ (c .before .before .before .verdict2 .given .1)) (c .put-refusal .ensures)
+
+pub mark-text-spec : {M : Type 1} → statement M
+mark-text-spec =
+    tie.close
+    (tie.spec
+    mark-requires
+    enum-known-verdict
+    put-pass-requires
+    put-gots-requires
+    enum-known-verdict-2
+    put-refusal-requires
+    returns
+    returns-2)

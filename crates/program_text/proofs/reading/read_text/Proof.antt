@@ -1,0 +1,41 @@
+-- `program_text::reading::read_text` meets its contract: the counts of an accepted network, or the refusal.
+-- Assumes nothing.
+use borrow.Author.Needs.{needs}
+use Rattle.program_text.proofs.Shown.{at-front, read-accepted, read-refused}
+use Rattle.program_text.proofs.reading.read_text.Statement.{statement}
+use Rattle.program_text.proofs.reading.read_text.Tie as tie
+
+read-network-requires : tie.Need-read-network-requires
+read-network-requires c κs = search needs
+
+enum-told : tie.Need-enum-told
+enum-told c = search needs
+
+put-counts-requires : tie.Need-put-counts-requires
+put-counts-requires c κs = search needs
+
+enum-known-verdict : tie.Need-enum-known-verdict
+enum-known-verdict c = search needs
+
+put-refusal-requires : tie.Need-put-refusal-requires
+put-refusal-requires c κs = search needs
+
+returns : tie.Need-returns
+returns c =
+    at-front _ _ (read-accepted _ _ (c .before .before .before .before .before .read-network .ensures) (c .before .before .enum-told .given .1)) (c .put-counts .ensures)
+
+returns-2 : tie.Need-returns-2
+returns-2 c =
+    at-front _ _ (read-refused _ _ (c .before .before .before .before .before .before .read-network .ensures) _ _ (c .before .before .before .verdict .given .1)) (c .put-refusal .ensures)
+
+pub read-text-spec : {M : Type 1} → statement M
+read-text-spec =
+    tie.close
+    (tie.spec
+    read-network-requires
+    enum-told
+    put-counts-requires
+    enum-known-verdict
+    put-refusal-requires
+    returns
+    returns-2)

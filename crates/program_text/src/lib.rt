@@ -1,0 +1,4 @@
+// What the programs print for the texts that they get, as bytes in a lent buffer (document 01, "Printed lines").
+pub mod lines;
+pub mod mark;
+pub mod reading;
