@@ -1,8 +1,8 @@
 // One parsed line of a network text.
 pub mod node;
 
-use text::Number;
 use text::LineWord;
+use text::Number;
 ghost use mathlib.Core.Bool.{cond};
 ghost use mathlib.Core.List.{[]};
 ghost use mathlib.Core.Path.{_≡_};
