@@ -1,4 +1,3 @@
 // What the programs print for the texts that they get, as bytes in a lent buffer (document 01, "Printed lines").
-pub mod lines;
 pub mod mark;
 pub mod reading;

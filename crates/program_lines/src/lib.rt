@@ -7,7 +7,7 @@ ghost use lib.ListN.{length, drop};
 ghost use Rattle.model.specs.Text.{tab};
 ghost use Rattle.model.specs.Printed.{number, fieldsOf, line};
 ghost use Rattle.plan_text.specs.Writing.{writeAt};
-ghost use Rattle.program_text.specs.Puts.{Puts, tabbed};
+ghost use Rattle.program_lines.specs.Puts.{Puts, tabbed};
 
 // The digits of the largest usize, which is below 10 ^ 20.
 const DIGITS: usize = 20;

@@ -1,0 +1,3 @@
+-- Laws of the definitions, for this crate's proofs and for its callers.
+pub mod Digits
+pub mod Parts
