@@ -1,2 +1,4 @@
 -- Laws of what the programs print.
 pub mod Shown
+pub mod PlanShown
+pub mod ClocksShown
