@@ -73,7 +73,7 @@ pub fn run(state: u8, tms: &[u8]) -> u8
 }
 
 // The TMS of an operation of n bits, written from a place on; the place behind it.
-fn write_tms(tms: &mut [u8], at: usize, n: usize) -> usize
+pub fn write_tms(tms: &mut [u8], at: usize, n: usize) -> usize
     requires { ⌜ at + (5 + n) ≤ length (now tms) ⌝ }
     ensures { λ r. ⌜ r ≡ at + (5 + n) ⌝ }
     ensures { λ r. ⌜ now (tms .exit) ≡ writeAt at (tmsBytes n) (now (tms .entry)) ⌝ }
@@ -87,7 +87,7 @@ fn write_tms(tms: &mut [u8], at: usize, n: usize) -> usize
 }
 
 // The TDI of an operation, written from a place on: its bits while shifting, else 0; the place behind it.
-fn write_tdi(tdi: &mut [u8], at: usize, bits: &[u8]) -> usize
+pub fn write_tdi(tdi: &mut [u8], at: usize, bits: &[u8]) -> usize
     requires { ⌜ at + (5 + length (now bits)) ≤ length (now tdi) ⌝ }
     ensures { λ r. ⌜ r ≡ at + (5 + length (now (bits .entry))) ⌝ }
     ensures { λ r. ⌜ now (tdi .exit) ≡ writeAt at (tdiBytes (now (bits .entry))) (now (tdi .entry)) ⌝ }

@@ -126,7 +126,7 @@ pub over-none : (old : List ℕ) → writeOver [] old ≡ old
 unfolding writeOver
 over-none old = refl
 
-over-is : (new old : List ℕ) → writeOver new old ≡ writeAt 0 new old
+pub over-is : (new old : List ℕ) → writeOver new old ≡ writeAt 0 new old
 unfolding writeOver writeAt
 over-is new old = rw zero-add
 

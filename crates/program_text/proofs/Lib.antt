@@ -1,4 +1,4 @@
--- Laws of the definitions, for this crate's proofs and for its callers.
-pub mod Digits
-pub mod Parts
+-- Laws of what the programs print.
 pub mod Shown
+pub mod PlanShown
+pub mod ClocksShown

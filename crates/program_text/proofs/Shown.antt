@@ -25,8 +25,8 @@ use Rattle.marker.specs.declared.targets.Verdict.the-variants.{Pass, Refused as
 use Rattle.marker.specs.declared.targets.Gots.{Gots}
 use Rattle.marker.specs.declared.targets.Mark.{Mark}
 use Rattle.marker.specs.Marks.{gotRow, gotsOf, verdictOf, RowsFor, MarkReturned}
-use Rattle.program_text.specs.Puts.{Puts}
-use Rattle.program_text.proofs.Parts.{puts-more}
+use Rattle.program_lines.specs.Puts.{Puts}
+use Rattle.program_lines.proofs.Parts.{puts-more}
 
 -- bytes at the front of a buffer are those of a program
 pub at-front : {r : ℕ} {old new : List ℕ} (bs shown : Bytes) → shown ≡ bs → Puts 0 bs old r new → (r ≡ length shown) × (new ≡ writeAt 0 shown old)

@@ -1,9 +1,9 @@
 // The mark program's lines.
-use crate::lines::put_line;
-use crate::lines::put_refusal;
 use marker::mark;
 use marker::targets::Gots;
 use marker::targets::Verdict;
+use program_lines::put_line;
+use program_lines::put_refusal;
 ghost use mathlib.Core.Path.{_≡_};
 ghost use mathlib.Core.List.{[], _∷_};
 ghost use Prim.Native.Nat.{_+_, _≤_};
@@ -11,7 +11,7 @@ ghost use lib.ListN.{length};
 ghost use Rattle.model.specs.Printed.{number, line, gotLines, markProgram};
 ghost use Rattle.marker.specs.Marks.{gotsOf};
 ghost use Rattle.plan_text.specs.Writing.{writeAt};
-ghost use Rattle.program_text.specs.Puts.{Puts};
+ghost use Rattle.program_lines.specs.Puts.{Puts};
 
 // Room for `pass` with two fields and four times `got` with three, each field a tab and at most 20 digits:
 // (4 + 2 * 21 + 1) + 4 * (3 + 3 * 21 + 1) = 315 bytes.
@@ -53,7 +53,7 @@ fn put_gots(out: &mut [u8], at: usize, gots: Gots) -> usize
 }
 
 // What the mark program prints for a network text and a plan text, at the front of a buffer; its length.
-pub fn mark_text(network: &[u8], plan: &[u8], out: &mut [u8; ROOM]) -> usize
+pub fn print_mark(network: &[u8], plan: &[u8], out: &mut [u8; ROOM]) -> usize
     ensures { λ r. ⌜ r ≡ length (markProgram (now (network .entry)) (now (plan .entry))) ⌝ }
     ensures { λ _. ⌜ now (out .exit) ≡ writeAt 0 (markProgram (now (network .entry)) (now (plan .entry))) (now (out .entry)) ⌝ }
 {

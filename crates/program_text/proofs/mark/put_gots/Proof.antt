@@ -8,9 +8,9 @@ use borrow.Author.Needs.{needs}
 use Rattle.model.specs.Printed.{gotLines}
 use Rattle.model.specs.Network.{tabulate}
 use Rattle.marker.specs.Marks.{gotRow}
-use Rattle.program_text.specs.Puts.{Puts}
+use Rattle.program_lines.specs.Puts.{Puts}
 use Rattle.program_text.proofs.Shown.{got-next, gots-done}
-use Rattle.program_text.proofs.Parts.{puts-none}
+use Rattle.program_lines.proofs.Parts.{puts-none}
 use Rattle.program_text.proofs.mark.put_gots.Statement.{statement}
 use Rattle.program_text.proofs.mark.put_gots.Tie as tie
 

@@ -1,4 +1,4 @@
--- `program_text::lines::put_number` meets its contract.
+-- `program_lines::put_number` meets its contract.
 -- Assumes nothing.
 use mathlib.Core.Path.{ap, _∙_}
 use mathlib.Core.List.{List}
@@ -7,9 +7,9 @@ use native.Mathlib.Omega.{arith}
 use lib.ListN.{length}
 use borrow.Author.Needs.{needs}
 use Rattle.plan_text.specs.Writing.{writeAt}
-use Rattle.program_text.proofs.Digits.{part-is, few-digits}
-use Rattle.program_text.proofs.lines.put_number.Statement.{statement}
-use Rattle.program_text.proofs.lines.put_number.Tie as tie
+use Rattle.program_lines.proofs.Digits.{part-is, few-digits}
+use Rattle.program_lines.proofs.put_number.Statement.{statement}
+use Rattle.program_lines.proofs.put_number.Tie as tie
 
 fill-digits-requires : tie.Need-fill-digits-requires
 fill-digits-requires c κs = search needs

@@ -1,10 +1,10 @@
--- `program_text::lines::put_field` meets its contract: a tab, and the digits behind it.
+-- `program_lines::put_field` meets its contract: a tab, and the digits behind it.
 -- Assumes nothing.
 use native.Mathlib.Omega.{arith}
 use borrow.Author.Needs.{needs}
-use Rattle.program_text.proofs.Parts.{puts-more}
-use Rattle.program_text.proofs.lines.put_field.Statement.{statement}
-use Rattle.program_text.proofs.lines.put_field.Tie as tie
+use Rattle.program_lines.proofs.Parts.{puts-more}
+use Rattle.program_lines.proofs.put_field.Statement.{statement}
+use Rattle.program_lines.proofs.put_field.Tie as tie
 
 slice-aggregate-put : tie.Need-slice-aggregate-put
 slice-aggregate-put c = search needs

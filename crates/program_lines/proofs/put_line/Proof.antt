@@ -1,10 +1,10 @@
--- `program_text::lines::put_line` meets its contract: the word, the fields and the line's end, each behind the one before it.
+-- `program_lines::put_line` meets its contract: the word, the fields and the line's end, each behind the one before it.
 -- Assumes nothing.
 use native.Mathlib.Omega.{arith}
 use borrow.Author.Needs.{needs}
-use Rattle.program_text.proofs.Parts.{puts-line}
-use Rattle.program_text.proofs.lines.put_line.Statement.{statement}
-use Rattle.program_text.proofs.lines.put_line.Tie as tie
+use Rattle.program_lines.proofs.Parts.{puts-line}
+use Rattle.program_lines.proofs.put_line.Statement.{statement}
+use Rattle.program_lines.proofs.put_line.Tie as tie
 
 put-requires : tie.Need-put-requires
 put-requires c κs = search needs

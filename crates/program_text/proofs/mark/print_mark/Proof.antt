@@ -1,11 +1,11 @@
--- `program_text::mark::mark_text` meets its contract: the line of a pass and those of its rows, or the refusal.
+-- `program_text::mark::print_mark` meets its contract: the line of a pass and those of its rows, or the refusal.
 -- Assumes nothing.
 use native.Mathlib.Omega.{arith}
 use borrow.Author.Needs.{needs}
 use Rattle.program_text.proofs.Shown.{at-front, mark-passed, mark-refused, few-rows}
-use Rattle.program_text.proofs.Parts.{puts-more}
-use Rattle.program_text.proofs.mark.mark_text.Statement.{statement}
-use Rattle.program_text.proofs.mark.mark_text.Tie as tie
+use Rattle.program_lines.proofs.Parts.{puts-more}
+use Rattle.program_text.proofs.mark.print_mark.Statement.{statement}
+use Rattle.program_text.proofs.mark.print_mark.Tie as tie
 
 mark-requires : tie.Need-mark-requires
 mark-requires c κs = search needs
@@ -34,8 +34,8 @@ returns-2 : tie.Need-returns-2
 returns-2 c =
     at-front _ _ (mark-refused _ _ _ (c .before .before .before .before .before .before .mark .ensures) _ _ (c .before .before .before .verdict2 .given .1)) (c .put-refusal .ensures)
 
-pub mark-text-spec : {M : Type 1} → statement M
-mark-text-spec =
+pub print-mark-spec : {M : Type 1} → statement M
+print-mark-spec =
     tie.close
     (tie.spec
     mark-requires

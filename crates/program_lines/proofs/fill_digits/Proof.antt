@@ -1,11 +1,11 @@
--- `program_text::lines::fill_digits` meets its contract. The loop's invariant: the digits but for those of `left` stand from place i on.
+-- `program_lines::fill_digits` meets its contract. The loop's invariant: the digits but for those of `left` stand from place i on.
 -- Assumes nothing.
 use native.Mathlib.Omega.{arith}
 use lib.ListN.{length-set}
 use borrow.Author.Needs.{needs}
-use Rattle.program_text.proofs.Digits.{Filled, fill-start, fill-next, fill-last}
-use Rattle.program_text.proofs.lines.fill_digits.Statement.{statement}
-use Rattle.program_text.proofs.lines.fill_digits.Tie as tie
+use Rattle.program_lines.proofs.Digits.{Filled, fill-start, fill-next, fill-last}
+use Rattle.program_lines.proofs.fill_digits.Statement.{statement}
+use Rattle.program_lines.proofs.fill_digits.Tie as tie
 
 abbrev Inv-loop : tie.InvT-loop
 Inv-loop n digits₀ left₀ i₀ digits left i = Filled n left i digits

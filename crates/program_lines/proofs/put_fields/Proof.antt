@@ -1,14 +1,14 @@
--- `program_text::lines::put_fields` meets its contract. The loop's invariant: the first i fields are written.
+-- `program_lines::put_fields` meets its contract. The loop's invariant: the first i fields are written.
 -- Assumes nothing.
 use mathlib.Core.Path.{_≡_, refl}
 use Prim.Native.Nat.{_+_, _*_, _-_, _≤_}
 use native.Mathlib.Omega.{arith}
 use lib.ListN.{length, take}
 use borrow.Author.Needs.{needs}
-use Rattle.program_text.specs.Puts.{Puts, tabbed}
-use Rattle.program_text.proofs.Parts.{puts-none, field-next, fields-done}
-use Rattle.program_text.proofs.lines.put_fields.Statement.{statement}
-use Rattle.program_text.proofs.lines.put_fields.Tie as tie
+use Rattle.program_lines.specs.Puts.{Puts, tabbed}
+use Rattle.program_lines.proofs.Parts.{puts-none, field-next, fields-done}
+use Rattle.program_lines.proofs.put_fields.Statement.{statement}
+use Rattle.program_lines.proofs.put_fields.Tie as tie
 
 abbrev Inv-loop : tie.InvT-loop
 Inv-loop out₀ at numbers next₀ i₀ out next i = (i ≤ length numbers) × (length out ≡ length out₀) × (next ≤ at + 21 * i) × Puts at (tabbed (take i numbers)) out₀ next out

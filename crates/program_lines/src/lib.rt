@@ -1,13 +1,13 @@
-// Numbers in base ten, fields and lines, written into a buffer from a place on.
+// Numbers in base ten, fields and lines, written into a buffer from a place on, and the exit status for what is written.
 use plan_text::put;
 ghost use mathlib.Core.Path.{_≡_};
 ghost use mathlib.Core.List.{[], _∷_, _++_, map};
 ghost use Prim.Native.Nat.{_+_, _*_, _≤_, _<_};
 ghost use lib.ListN.{length, drop};
 ghost use Rattle.model.specs.Text.{tab};
-ghost use Rattle.model.specs.Printed.{number, fieldsOf, line};
+ghost use Rattle.model.specs.Printed.{number, fieldsOf, line, exitStatus};
 ghost use Rattle.plan_text.specs.Writing.{writeAt};
-ghost use Rattle.program_text.specs.Puts.{Puts, tabbed};
+ghost use Rattle.program_lines.specs.Puts.{Puts, tabbed};
 
 // The digits of the largest usize, which is below 10 ^ 20.
 const DIGITS: usize = 20;
@@ -91,4 +91,18 @@ pub fn put_refusal(out: &mut [u8], n: usize, place: usize) -> usize
 {
     let numbers = [n, place];
     put_line(out, 0, b"fail", &numbers)
+}
+
+// The exit status for a printed answer: 1 for a refusal, else 0.
+pub fn exit_status(answer: &[u8]) -> u8
+    ensures { λ r. ⌜ r ≡ exitStatus (now (answer .entry)) ⌝ }
+{
+    if answer.len() < 4 {
+        return 0;
+    }
+    if text::equal(&answer[..4], b"fail") {
+        1
+    } else {
+        0
+    }
 }

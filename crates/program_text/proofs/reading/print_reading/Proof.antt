@@ -1,9 +1,9 @@
--- `program_text::reading::read_text` meets its contract: the counts of an accepted network, or the refusal.
+-- `program_text::reading::print_reading` meets its contract: the counts of an accepted network, or the refusal.
 -- Assumes nothing.
 use borrow.Author.Needs.{needs}
 use Rattle.program_text.proofs.Shown.{at-front, read-accepted, read-refused}
-use Rattle.program_text.proofs.reading.read_text.Statement.{statement}
-use Rattle.program_text.proofs.reading.read_text.Tie as tie
+use Rattle.program_text.proofs.reading.print_reading.Statement.{statement}
+use Rattle.program_text.proofs.reading.print_reading.Tie as tie
 
 read-network-requires : tie.Need-read-network-requires
 read-network-requires c κs = search needs
@@ -28,8 +28,8 @@ returns-2 : tie.Need-returns-2
 returns-2 c =
     at-front _ _ (read-refused _ _ (c .before .before .before .before .before .before .read-network .ensures) _ _ (c .before .before .before .verdict .given .1)) (c .put-refusal .ensures)
 
-pub read-text-spec : {M : Type 1} → statement M
-read-text-spec =
+pub print-reading-spec : {M : Type 1} → statement M
+print-reading-spec =
     tie.close
     (tie.spec
     read-network-requires

@@ -11,7 +11,7 @@ use lib.Seq.{take-suc, take-all}
 use Rattle.model.specs.Text.{tab, lineEnd}
 use Rattle.model.specs.Printed.{number, fieldsOf}
 use Rattle.plan_text.proofs.Writing.{write-none, write-behind}
-use Rattle.program_text.specs.Puts.{Puts, tabbed}
+use Rattle.program_lines.specs.Puts.{Puts, tabbed}
 
 pub puts-none : (at : ℕ) (old : List ℕ) → Puts at [] old at old
 puts-none at old = record { behind = sym (add-zero at); holds = sym (write-none at old) }
