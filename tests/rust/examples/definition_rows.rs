@@ -4,6 +4,10 @@
 //! computed). The script tests/definitions has the module checked.
 
 use penthluk_reference::generate::cases::case;
+use penthluk_reference::limits::{MAX_PLAN_BYTES, SEARCH_ENTRIES};
+use penthluk_reference::marker::mark;
+use penthluk_reference::plan_text::plan_lines;
+use penthluk_reference::planner::make_plan;
 use penthluk_reference::programs;
 use penthluk_reference::reader::read_network;
 use penthluk_reference::steering::steering_bits;
@@ -34,19 +38,39 @@ fn rows(seed: u64, plans: bool) -> Vec<String> {
     let (Some(network), Some(plan)) = (literal(&case.network), literal(&case.plan)) else {
         return Vec::new();
     };
-    let row = |program: &str, network: &str, plan: &str, output: &[u8]| {
-        format!("    row {program} {network} {plan} {}", literal(output).expect("printable"))
+    let row = |program: &str, network: &str, plan: &str, output: &[u8], refused: bool| {
+        let output = literal(output).expect("printable");
+        format!("    row {program} {network} {plan} {output} {}", u8::from(refused))
     };
+    let none = "\"\"";
     if plans {
         let output = programs::plan(&case.network);
         let computed = is_computed(&case.network, &output);
-        return computed.then(|| row("planning", &network, "\"\"", &output)).into_iter().collect();
+        let refused = is_refused(&case.network);
+        return computed
+            .then(|| row("planning", &network, none, &output, refused))
+            .into_iter()
+            .collect();
     }
+    let read = read_network(&case.network);
+    let marked = mark(&case.network, &case.plan);
+    let clocks = plan_lines(&case.plan);
     vec![
-        row("reading", &network, "\"\"", &programs::read(&case.network)),
-        row("marking", &network, &plan, &programs::mark(&case.network, &case.plan)),
-        row("clocking", "\"\"", &plan, &programs::clock(&case.plan)),
+        row("reading", &network, none, &programs::read(&case.network), read.is_err()),
+        row(
+            "marking",
+            &network,
+            &plan,
+            &programs::mark(&case.network, &case.plan),
+            marked.is_err(),
+        ),
+        row("clocking", none, &plan, &programs::clock(&case.plan), clocks.is_err()),
     ]
+}
+
+/// Whether the planner refuses a network text.
+fn is_refused(network: &[u8]) -> bool {
+    make_plan(network, &mut vec![0; SEARCH_ENTRIES], &mut vec![0; MAX_PLAN_BYTES]).is_err()
 }
 
 /// Whether the definition of the search can be computed for the network.
