@@ -1,18 +1,26 @@
-// clock PLAN: the plan text in that file, or on standard input without an argument.
-// It prints `clk` with TMS and TDI for each operation, or `fail` with number and place.
+// clock [PLAN]: `clk` with TMS and TDI for each operation, or `fail` with number and place.
 use model::limits::MAX_PLAN_BYTES;
+use program_io::finish::give_up;
+use program_io::input::read_text;
+use program_io::start::begin;
 
 fn main() {
-    if 2 < os::arg_count() {
-        program_io::put_usage(
-            b"usage: clock [PLAN]\nPLAN is a plan text; without it standard input is read\n",
-        );
+    let name = b"clock";
+    let call = begin(
+        name,
+        b"usage: clock [PLAN]\nPLAN is the file of a plan text; - or nothing is standard input\nprints clk with the TMS and the TDI bits of each operation, or fail\n",
+        0,
+        1,
+    );
+    if !call.runs {
         return;
     }
     let mut text = [0u8; MAX_PLAN_BYTES + 1];
-    let input = program_io::read_input(b"PLAN", &mut text);
-    if input.is_read {
-        let n = input.count;
-        program_output::clocks::show(&text[..n]);
+    let input = read_text(call.first, &mut text);
+    if !input.is_read {
+        give_up(name, call.reports, call.first, input.error);
+        return;
     }
+    let n = input.count;
+    program_output::clocks::show(&text[..n]);
 }

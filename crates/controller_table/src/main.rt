@@ -5,11 +5,11 @@ ghost use Prim.Native.Nat.{_<_};
 fn show_state(state: u8)
     requires { ⌜ state < 16 ⌝ }
 {
-    program_io::put(b"state");
-    program_io::put_number(state as usize);
-    program_io::put_number(clock_writer::next_state(state, b'0') as usize);
-    program_io::put_number(clock_writer::next_state(state, b'1') as usize);
-    program_io::end_line();
+    program_io::old::put(b"state");
+    program_io::old::put_number(state as usize);
+    program_io::old::put_number(clock_writer::next_state(state, b'0') as usize);
+    program_io::old::put_number(clock_writer::next_state(state, b'1') as usize);
+    program_io::old::end_line();
 }
 
 fn show_states() {
@@ -21,8 +21,13 @@ fn show_states() {
 }
 
 fn main() {
-    if 1 < os::arg_count() {
-        program_io::put_usage(b"usage: controller_table\nIt takes no arguments\n");
+    let call = program_io::start::begin(
+        b"controller_table",
+        b"usage: controller_table\nprints state, its number and the next states for TMS 0 and TMS 1, for each state\n",
+        0,
+        0,
+    );
+    if !call.runs {
         return;
     }
     show_states();

@@ -1,8 +1,8 @@
 // drawn: what the programs print for the networks of document 01, "Drawn networks", each behind a title line.
 fn put_title(title: &[u8], program: &[u8]) {
-    program_io::put(title);
-    program_io::put(program);
-    program_io::end_line();
+    program_io::old::put(title);
+    program_io::old::put(program);
+    program_io::old::end_line();
 }
 
 fn read(title: &[u8], network: &[u8]) {
@@ -93,8 +93,13 @@ fn plan_lines() {
 }
 
 fn main() {
-    if 1 < os::arg_count() {
-        program_io::put_usage(b"usage: drawn\nIt takes no arguments\n");
+    let call = program_io::start::begin(
+        b"drawn",
+        b"usage: drawn\nprints what the programs print for the networks of document 01\n",
+        0,
+        0,
+    );
+    if !call.runs {
         return;
     }
     network_a();

@@ -9,10 +9,10 @@ ghost use Rattle.plan_text.specs.Form.{HasForm};
 fn show_operation(tms: &[u8], tdi: &[u8], at: usize, next: usize)
     requires { ⌜ (at ≤ next) × (next ≤ length (now tms)) × (next ≤ length (now tdi)) ⌝ }
 {
-    program_io::put(b"clk");
-    program_io::put_field(&tms[at..next]);
-    program_io::put_field(&tdi[at..next]);
-    program_io::end_line();
+    program_io::old::put(b"clk");
+    program_io::old::put_field(&tms[at..next]);
+    program_io::old::put_field(&tdi[at..next]);
+    program_io::old::end_line();
 }
 
 // The clocks of each line. A line and its clocks take as many bytes, so that they start at the same place.
@@ -36,6 +36,6 @@ pub fn show(plan: &[u8]) {
     let written = clock_writer::write_clocks(plan, &mut tms, &mut tdi);
     match written {
         Written::Clocks(_) => show_operations(plan, &tms, &tdi),
-        Written::Refused(number, place) => program_io::put_refusal(number, place),
+        Written::Refused(number, place) => program_io::old::put_refusal(number, place),
     }
 }

@@ -4,18 +4,18 @@ use marker::targets::Verdict;
 ghost use Prim.Native.Nat.{_≤_};
 
 fn show_pass(operations: usize, clocks: usize) {
-    program_io::put(b"pass");
-    program_io::put_number(operations);
-    program_io::put_number(clocks);
-    program_io::end_line();
+    program_io::old::put(b"pass");
+    program_io::old::put_number(operations);
+    program_io::old::put_number(clocks);
+    program_io::old::end_line();
 }
 
 fn show_got(target: usize, operation: usize, place: usize) {
-    program_io::put(b"got");
-    program_io::put_number(target);
-    program_io::put_number(operation);
-    program_io::put_number(place);
-    program_io::end_line();
+    program_io::old::put(b"got");
+    program_io::old::put_number(target);
+    program_io::old::put_number(operation);
+    program_io::old::put_number(place);
+    program_io::old::end_line();
 }
 
 // A line for each row.
@@ -42,6 +42,6 @@ pub fn show(network: &[u8], plan: &[u8]) {
             show_pass(operations, clocks);
             show_gots(gots);
         }
-        Verdict::Refused(number, place) => program_io::put_refusal(number, place),
+        Verdict::Refused(number, place) => program_io::old::put_refusal(number, place),
     }
 }

@@ -10,7 +10,7 @@ pub fn show(network: &[u8]) {
     let mut plan = [0u8; MAX_PLAN_BYTES];
     let planned = make_plan(network, &mut search, &mut plan);
     match planned {
-        Planned::Written(n) => program_io::put_lines(&plan[..n]),
-        Planned::Refused(number, place) => program_io::put_refusal(number, place),
+        Planned::Written(n) => program_io::old::put_lines(&plan[..n]),
+        Planned::Refused(number, place) => program_io::old::put_refusal(number, place),
     }
 }

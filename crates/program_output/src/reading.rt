@@ -4,12 +4,12 @@ use network_reader::reader::read_network;
 
 // `ok` with the counts of nodes, segment bits, distinct steering bits and bits of the start's path.
 fn show_counts(nodes: usize, bits: usize, steering: usize, length: usize) {
-    program_io::put(b"ok");
-    program_io::put_number(nodes);
-    program_io::put_number(bits);
-    program_io::put_number(steering);
-    program_io::put_number(length);
-    program_io::end_line();
+    program_io::old::put(b"ok");
+    program_io::old::put_number(nodes);
+    program_io::old::put_number(bits);
+    program_io::old::put_number(steering);
+    program_io::old::put_number(length);
+    program_io::old::end_line();
 }
 
 // What reading a network text gives.
@@ -24,6 +24,6 @@ pub fn show(text: &[u8]) {
             network.steering_count,
             network.start_length,
         ),
-        Acceptance::Refused(number, place) => program_io::put_refusal(number, place),
+        Acceptance::Refused(number, place) => program_io::old::put_refusal(number, place),
     }
 }
