@@ -8,7 +8,9 @@ fn main() {
     let name = b"clock";
     let call = begin(
         name,
-        b"usage: clock [PLAN]\nPLAN is the file of a plan text; - or nothing is standard input\nprints clk with the TMS and the TDI bits of each operation, or fail\n",
+        b"usage: clock [PLAN]\n\
+          PLAN is the file of a plan text, - or nothing for standard input.\n\
+          Prints clk with the TMS and TDI bits of each operation, or fail, number, place.\n",
         0,
         1,
     );

@@ -23,7 +23,8 @@ fn show_states() {
 fn main() {
     let call = program_io::start::begin(
         b"controller_table",
-        b"usage: controller_table\nprints state, its number and the next states for TMS 0 and TMS 1, for each state\n",
+        b"usage: controller_table\n\
+          Prints state with its number and the next states for TMS 0 and TMS 1, for each state.\n",
         0,
         0,
     );

@@ -95,7 +95,8 @@ fn plan_lines() {
 fn main() {
     let call = program_io::start::begin(
         b"drawn",
-        b"usage: drawn\nprints what the programs print for the networks of document 01\n",
+        b"usage: drawn\n\
+          Prints what the programs print for the networks of document 01, each behind a title line.\n",
         0,
         0,
     );

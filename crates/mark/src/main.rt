@@ -13,7 +13,9 @@ fn main() {
     let name = b"mark";
     let call = begin(
         name,
-        b"usage: mark NETWORK PLAN\nNETWORK is the file of a network text, PLAN that of a plan text; - for one of them is standard input\nprints pass and the counts of operations and clocks, then got for each read target, or fail\n",
+        b"usage: mark NETWORK PLAN\n\
+          NETWORK is the file of a network text, PLAN that of a plan text; - for one of them is standard input.\n\
+          Prints pass with the counts of operations and clocks, then got for each read target, or fail, number, place.\n",
         2,
         2,
     );

@@ -8,7 +8,9 @@ fn main() {
     let name = b"plan";
     let call = begin(
         name,
-        b"usage: plan [NETWORK]\nNETWORK is the file of a network text; - or nothing is standard input\nprints the plan text, or fail\n",
+        b"usage: plan [NETWORK]\n\
+          NETWORK is the file of a network text, - or nothing for standard input.\n\
+          Prints the plan text, or fail, number, place.\n",
         0,
         1,
     );

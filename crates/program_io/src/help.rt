@@ -30,7 +30,9 @@ fn put_status_line(name: &[u8]) -> u8 {
 fn put_options(name: &[u8]) -> bool {
     put_part(
         name,
-        b"  --help     show this text\n  --version  show the version\n  --status   write 0, 1 or 2 to descriptor 3 at the end: answered, refused, no answer\n",
+        b"  --help     show this text\n  \
+            --version  show the version\n  \
+            --status   write 0, 1 or 2 to descriptor 3 at the end: answered, refused, no answer\n",
     )
 }
 

@@ -11,7 +11,9 @@ fn main() {
     let name = b"read";
     let call = begin(
         name,
-        b"usage: read [NETWORK]\nNETWORK is the file of a network text; - or nothing is standard input\nprints ok and the counts of nodes, segment bits, steering bits and path bits, or fail\n",
+        b"usage: read [NETWORK]\n\
+          NETWORK is the file of a network text, - or nothing for standard input.\n\
+          Prints ok with the counts of nodes, segment bits, steering bits and path bits, or fail, number, place.\n",
         0,
         1,
     );
