@@ -1,5 +1,5 @@
 // The system's errors in words.
-use crate::message::add;
+use crate::line::add;
 use crate::write::NOTHING_TAKEN;
 
 // The number of an error; none is negative.

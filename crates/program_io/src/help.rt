@@ -1,6 +1,6 @@
 // Help and version texts.
-use crate::message::add;
-use crate::message::end;
+use crate::line::add;
+use crate::line::end;
 use crate::output::put;
 use crate::output::put_part;
 use crate::status::ANSWERED;

@@ -6,6 +6,7 @@ mod errors;
 pub mod finish;
 mod help;
 pub mod input;
+pub mod line;
 mod message;
 pub mod old;
 pub mod output;

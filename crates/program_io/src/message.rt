@@ -1,57 +1,15 @@
 // Messages on standard error: a line each, which begins with the program's name. A line is put together first and
 // written at once, so that the lines of two programs do not mix.
 use crate::errors::add_error;
+use crate::line::add;
+use crate::line::end;
 use crate::status::NO_ANSWER;
 use crate::write::Wrote;
 use crate::write::write_whole;
 use libc::STDERR_FILENO;
-ghost use Rattle.io.specs.Counts.{Counts};
 
 // Room for the first 4,096 bytes of an argument and the words around them.
 const ROOM: usize = 4352;
-
-// A byte as it is shown: a control byte, as a line end, would break the line.
-fn shown(byte: u8) -> u8 {
-    if byte < 32 {
-        return b'?';
-    }
-    if byte == 127 {
-        return b'?';
-    }
-    byte
-}
-
-// Bytes from a place of a line on, as far as they fit; the place behind them.
-pub fn add(line: &mut [u8], at: usize, bytes: &[u8]) -> usize {
-    let mut next = at;
-    let mut i: usize = 0;
-    while i < bytes.len() {
-        if line.len() <= next {
-            break;
-        }
-        line[next] = shown(bytes[i]);
-        next += 1;
-        i += 1;
-    }
-    next
-}
-
-// The line's end at a place, or at the last one where the line is full; the length of the line.
-pub fn end(line: &mut [u8], at: usize) -> usize
-    ensures { λ r. ⌜ Counts r (now (line .exit)) ⌝ }
-{
-    let room = line.len();
-    if room == 0 {
-        return 0;
-    }
-    let last = room - 1;
-    if last < at {
-        line[last] = b'\n';
-        return room;
-    }
-    line[at] = b'\n';
-    at + 1
-}
 
 // A message that can't be written leaves nothing to say it with: there is no answer either way.
 fn send(line: &[u8]) -> u8 {

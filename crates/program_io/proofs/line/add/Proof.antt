@@ -1,11 +1,11 @@
--- `program_io::message::add` is safe and ends.
+-- `program_io::line::add` is safe and ends.
 -- Assumes nothing.
 use mathlib.Core.Path.{_≡_}
 use Prim.Native.Nat.{_-_}
 use lib.ListN.{length}
 use borrow.Author.Needs.{needs}
-use Rattle.program_io.proofs.message.add.Statement.{statement}
-use Rattle.program_io.proofs.message.add.Tie as tie
+use Rattle.program_io.proofs.line.add.Statement.{statement}
+use Rattle.program_io.proofs.line.add.Tie as tie
 
 abbrev Inv-loop : tie.InvT-loop
 Inv-loop line₀ at bytes next₀ i₀ line next i = length line ≡ length line₀

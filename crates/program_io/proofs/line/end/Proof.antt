@@ -1,11 +1,11 @@
--- `program_io::message::end` meets its contract.
+-- `program_io::line::end` meets its contract.
 -- Assumes nothing.
 use native.Mathlib.Omega.{arith}
 use lib.ListN.{length-set}
 use borrow.Author.Needs.{needs}
 use Rattle.program_io.proofs.Within.{counted}
-use Rattle.program_io.proofs.message.end.Statement.{statement}
-use Rattle.program_io.proofs.message.end.Tie as tie
+use Rattle.program_io.proofs.line.end.Statement.{statement}
+use Rattle.program_io.proofs.line.end.Tie as tie
 
 returns : tie.Need-returns
 returns c = search needs
