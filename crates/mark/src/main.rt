@@ -1,26 +1,42 @@
-// mark NETWORK PLAN: the plan text in one file against the network text in another.
-// It prints `pass` with the counts of operations and clocks, then `got` with target, operation and place for each read
-// target, or `fail` with number and place.
+// mark NETWORK PLAN: `pass` with the counts of operations and clocks, then `got` with target, operation and place for
+// each read target, or `fail` with number and place.
 use model::limits::MAX_NETWORK_BYTES;
 use model::limits::MAX_PLAN_BYTES;
+use program_io::finish::answer;
+use program_io::finish::give_up;
+use program_io::input::read_text;
+use program_io::start::begin;
+use program_text::mark::ROOM;
+use program_text::mark::print_mark;
 
 fn main() {
-    if os::arg_count() != 3 {
-        program_io::put_usage(
-            b"usage: mark NETWORK PLAN\nNETWORK is a network text, PLAN a plan text\n",
-        );
+    let name = b"mark";
+    let call = begin(
+        name,
+        b"usage: mark NETWORK PLAN\n\
+          NETWORK is the file of a network text, PLAN that of a plan text; - for one of them is standard input.\n\
+          Prints pass with the counts of operations and clocks, then got for each read target, or fail, number, place.\n",
+        2,
+        2,
+    );
+    if !call.runs {
         return;
     }
     let mut network = [0u8; MAX_NETWORK_BYTES + 1];
-    let first = program_io::read_argument(1, b"NETWORK", &mut network);
+    let first = read_text(call.first, &mut network);
     if !first.is_read {
+        give_up(name, call.reports, call.first, first.error);
         return;
     }
     let mut plan = [0u8; MAX_PLAN_BYTES + 1];
-    let second = program_io::read_argument(2, b"PLAN", &mut plan);
-    if second.is_read {
-        let n = first.count;
-        let p = second.count;
-        program_output::mark::show(&network[..n], &plan[..p]);
+    let second = read_text(call.second, &mut plan);
+    if !second.is_read {
+        give_up(name, call.reports, call.second, second.error);
+        return;
     }
+    let n = first.count;
+    let p = second.count;
+    let mut out = [0u8; ROOM];
+    let end = print_mark(&network[..n], &plan[..p], &mut out);
+    answer(name, call.reports, &out[..end]);
 }

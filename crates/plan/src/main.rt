@@ -1,18 +1,33 @@
-// plan NETWORK: the network text in that file, or on standard input without an argument.
-// It prints the plan text, nothing for a plan of no operations, or `fail` with number and place.
+// plan [NETWORK]: the plan text, nothing for a plan of no operations, or `fail` with number and place.
 use model::limits::MAX_NETWORK_BYTES;
+use program_io::finish::answer;
+use program_io::finish::give_up;
+use program_io::input::read_text;
+use program_io::start::begin;
+use program_text::plan::ROOM;
+use program_text::plan::print_plan;
 
 fn main() {
-    if 2 < os::arg_count() {
-        program_io::put_usage(
-            b"usage: plan [NETWORK]\nNETWORK is a network text; without it standard input is read\n",
-        );
+    let name = b"plan";
+    let call = begin(
+        name,
+        b"usage: plan [NETWORK]\n\
+          NETWORK is the file of a network text, - or nothing for standard input.\n\
+          Prints the plan text, or fail, number, place.\n",
+        0,
+        1,
+    );
+    if !call.runs {
         return;
     }
     let mut text = [0u8; MAX_NETWORK_BYTES + 1];
-    let input = program_io::read_input(b"NETWORK", &mut text);
-    if input.is_read {
-        let n = input.count;
-        program_output::plan::show(&text[..n]);
+    let input = read_text(call.first, &mut text);
+    if !input.is_read {
+        give_up(name, call.reports, call.first, input.error);
+        return;
     }
+    let n = input.count;
+    let mut out = [0u8; ROOM];
+    let end = print_plan(&text[..n], &mut out);
+    answer(name, call.reports, &out[..end]);
 }

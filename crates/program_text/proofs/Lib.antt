@@ -2,3 +2,4 @@
 pub mod Shown
 pub mod PlanShown
 pub mod ClocksShown
+pub mod Front

@@ -13,6 +13,7 @@ ghost use mathlib.Core.Path.{_≡_};
 ghost use mathlib.Core.List.{[], _∷_};
 ghost use Prim.Native.Nat.{_+_, _*_, _≤_};
 ghost use lib.ListN.{length};
+ghost use Rattle.io.specs.Counts.{Counts};
 ghost use Rattle.model.specs.Printed.{line, clockProgram};
 ghost use Rattle.plan_text.specs.Form.{HasForm};
 ghost use Rattle.plan_text.specs.Writing.{writeAt};
@@ -55,6 +56,7 @@ fn put_operations(plan: &[u8], out: &mut [u8]) -> usize
 pub fn print_clocks(plan: &[u8], out: &mut [u8; ROOM]) -> usize
     ensures { λ r. ⌜ r ≡ length (clockProgram (now (plan .entry))) ⌝ }
     ensures { λ _. ⌜ now (out .exit) ≡ writeAt 0 (clockProgram (now (plan .entry))) (now (out .entry)) ⌝ }
+    ensures { λ r. ⌜ Counts r (now (out .exit)) ⌝ }
 {
     let form = check_form(plan);
     match form {

@@ -8,6 +8,7 @@ ghost use mathlib.Core.Path.{_≡_};
 ghost use mathlib.Core.List.{[], _∷_};
 ghost use Prim.Native.Nat.{_+_, _≤_};
 ghost use lib.ListN.{length};
+ghost use Rattle.io.specs.Counts.{Counts};
 ghost use Rattle.model.specs.Printed.{number, line, gotLines, markProgram};
 ghost use Rattle.marker.specs.Marks.{gotsOf};
 ghost use Rattle.plan_text.specs.Writing.{writeAt};
@@ -56,6 +57,7 @@ fn put_gots(out: &mut [u8], at: usize, gots: Gots) -> usize
 pub fn print_mark(network: &[u8], plan: &[u8], out: &mut [u8; ROOM]) -> usize
     ensures { λ r. ⌜ r ≡ length (markProgram (now (network .entry)) (now (plan .entry))) ⌝ }
     ensures { λ _. ⌜ now (out .exit) ≡ writeAt 0 (markProgram (now (network .entry)) (now (plan .entry))) (now (out .entry)) ⌝ }
+    ensures { λ r. ⌜ Counts r (now (out .exit)) ⌝ }
 {
     let marked = mark(network, plan);
     let verdict = marked.verdict;

@@ -6,6 +6,7 @@ use planner_text::Planned;
 use program_lines::put_refusal;
 ghost use mathlib.Core.Path.{_≡_};
 ghost use lib.ListN.{length};
+ghost use Rattle.io.specs.Counts.{Counts};
 ghost use Rattle.model.specs.Printed.{planProgram};
 ghost use Rattle.plan_text.specs.Writing.{writeAt};
 
@@ -16,6 +17,7 @@ pub const ROOM: usize = MAX_PLAN_BYTES;
 pub fn print_plan(network: &[u8], out: &mut [u8; ROOM]) -> usize
     ensures { λ r. ⌜ r ≡ length (planProgram (now (network .entry))) ⌝ }
     ensures { λ _. ⌜ now (out .exit) ≡ writeAt 0 (planProgram (now (network .entry))) (now (out .entry)) ⌝ }
+    ensures { λ r. ⌜ Counts r (now (out .exit)) ⌝ }
 {
     let mut search = [0u16; SEARCH_SIZE];
     let planned = make_plan(network, &mut search, out);

@@ -7,6 +7,7 @@ ghost use mathlib.Core.Path.{_≡_};
 ghost use mathlib.Core.List.{[], _∷_};
 ghost use Prim.Native.Nat.{_≤_};
 ghost use lib.ListN.{length};
+ghost use Rattle.io.specs.Counts.{Counts};
 ghost use Rattle.model.specs.Printed.{number, line, readProgram};
 ghost use Rattle.plan_text.specs.Writing.{writeAt};
 ghost use Rattle.program_lines.specs.Puts.{Puts};
@@ -27,6 +28,7 @@ fn put_counts(out: &mut [u8], nodes: usize, bits: usize, steering: usize, path: 
 pub fn print_reading(text: &[u8], out: &mut [u8; ROOM]) -> usize
     ensures { λ r. ⌜ r ≡ length (readProgram (now (text .entry))) ⌝ }
     ensures { λ _. ⌜ now (out .exit) ≡ writeAt 0 (readProgram (now (text .entry))) (now (out .entry)) ⌝ }
+    ensures { λ r. ⌜ Counts r (now (out .exit)) ⌝ }
 {
     let reading = read_network(text);
     let verdict = reading.verdict;

@@ -4,6 +4,7 @@ use native.Mathlib.Omega.{arith}
 use borrow.Author.Needs.{needs}
 use Rattle.program_text.proofs.Shown.{at-front, mark-passed, mark-refused, few-rows}
 use Rattle.program_lines.proofs.Parts.{puts-more}
+use Rattle.program_text.proofs.Front.{counted}
 use Rattle.program_text.proofs.mark.print_mark.Statement.{statement}
 use Rattle.program_text.proofs.mark.print_mark.Tie as tie
 
@@ -18,7 +19,9 @@ put-pass-requires c κs = search needs
 
 put-gots-requires : tie.Need-put-gots-requires
 put-gots-requires c κs =
-    (few-rows _ _ _ (c .before .before .before .before .before .before .before .mark .ensures) _ _ (c .before .before .before .before .verdict .given .1), omega (arith, c .before .put-pass .ensures .1, c .put-gots-arg .given .0 .1))
+    let answered = c .before .before .before .before in
+    let few = few-rows _ _ _ (answered .before .before .before .mark .ensures) _ _ (answered .verdict .given .1) in
+    (few, omega (arith, c .before .put-pass .ensures .1, c .put-gots-arg .given .0 .1))
 
 enum-known-verdict-2 : tie.Need-enum-known-verdict-2
 enum-known-verdict-2 c = search needs
@@ -28,11 +31,17 @@ put-refusal-requires c κs = search needs
 
 returns : tie.Need-returns
 returns c =
-    at-front _ _ (mark-passed _ _ _ (c .before .before .before .before .before .before .before .before .mark .ensures) _ _ (c .before .before .before .before .before .verdict .given .1)) (puts-more (c .before .before .put-pass .ensures .0) (c .put-gots .ensures) (omega (arith, c .before .before .put-pass .ensures .1, c .before .before .before .put-pass-arg .given .0 .1)))
+    let passed = c .before .before in
+    let answered = passed .before .before .before in
+    let shown = mark-passed _ _ _ (answered .before .before .before .mark .ensures) _ _ (answered .verdict .given .1) in
+    let both = puts-more (passed .put-pass .ensures .0) (c .put-gots .ensures) (omega (arith, passed .put-pass .ensures .1, passed .before .put-pass-arg .given .0 .1)) in
+    counted _ _ (at-front _ _ shown both)
 
 returns-2 : tie.Need-returns-2
 returns-2 c =
-    at-front _ _ (mark-refused _ _ _ (c .before .before .before .before .before .before .mark .ensures) _ _ (c .before .before .before .verdict2 .given .1)) (c .put-refusal .ensures)
+    let answered = c .before .before .before in
+    let shown = mark-refused _ _ _ (answered .before .before .before .mark .ensures) _ _ (answered .verdict2 .given .1) in
+    counted _ _ (at-front _ _ shown (c .put-refusal .ensures))
 
 pub print-mark-spec : {M : Type 1} → statement M
 print-mark-spec =

@@ -1,0 +1,45 @@
+// Help and version texts.
+use crate::line::add;
+use crate::line::end;
+use crate::output::put;
+use crate::output::put_part;
+use crate::status::ANSWERED;
+use crate::status::NO_ANSWER;
+
+const VERSION: [u8; 3] = *b"1.0";
+
+pub fn put_version(name: &[u8]) -> u8 {
+    let mut line = [0u8; 64];
+    let next = add(&mut line, 0, name);
+    let middle = add(&mut line, next, b" (penthluk) ");
+    let behind = add(&mut line, middle, &VERSION);
+    let n = end(&mut line, behind);
+    put(name, &line[..n], ANSWERED)
+}
+
+// The line of a help text that names the program again.
+fn put_status_line(name: &[u8]) -> u8 {
+    let mut line = [0u8; 96];
+    let next = add(&mut line, 0, b"The exit status is always 0; penthluk ");
+    let middle = add(&mut line, next, name);
+    let behind = add(&mut line, middle, b" gives one.");
+    let n = end(&mut line, behind);
+    put(name, &line[..n], ANSWERED)
+}
+
+fn put_options(name: &[u8]) -> bool {
+    put_part(
+        name,
+        b"  --help     show this text\n  \
+            --version  show the version\n  \
+            --status   write 0, 1 or 2 to descriptor 3 at the end: answered, refused, no answer\n",
+    )
+}
+
+// The program's own lines, then what all programs have. Nothing is written after a write that failed.
+pub fn put_help(name: &[u8], help: &[u8]) -> u8 {
+    if put_part(name, help) && put_options(name) {
+        return put_status_line(name);
+    }
+    NO_ANSWER
+}

@@ -1,3 +1,0 @@
--- Laws of the printed lines.
-pub mod PlanLines
-pub mod PlanRoom

@@ -1,5 +1,0 @@
-// What the programs print for the texts that they get (document 01, "Printed lines").
-pub mod clocks;
-pub mod mark;
-pub mod plan;
-pub mod reading;
