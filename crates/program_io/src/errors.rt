@@ -18,28 +18,35 @@ fn add_number(line: &mut [u8], at: usize, error: i32) -> usize {
     add(line, next, &digits[..n])
 }
 
-// The words of an error that a call on a path or a descriptor gives.
-fn add_words(line: &mut [u8], at: usize, error: i32) -> usize {
+// An error of a descriptor.
+fn add_descriptor_error(line: &mut [u8], at: usize, error: i32) -> usize {
     match error {
         NOTHING_TAKEN => add(line, at, b"nothing was taken"),
-        libc::EPERM => add(line, at, b"Operation not permitted"),
-        libc::ENOENT => add(line, at, b"No such file or directory"),
         libc::EINTR => add(line, at, b"Interrupted system call"),
         libc::EIO => add(line, at, b"Input/output error"),
         libc::EBADF => add(line, at, b"Bad file descriptor"),
         libc::EAGAIN => add(line, at, b"Resource temporarily unavailable"),
+        libc::EINVAL => add(line, at, b"Invalid argument"),
+        libc::EFBIG => add(line, at, b"File too large"),
+        libc::ENOSPC => add(line, at, b"No space left on device"),
+        libc::EPIPE => add(line, at, b"Broken pipe"),
+        _ => add_number(line, at, error),
+    }
+}
+
+// An error of a path, or else of a descriptor.
+fn add_words(line: &mut [u8], at: usize, error: i32) -> usize {
+    match error {
+        libc::EPERM => add(line, at, b"Operation not permitted"),
+        libc::ENOENT => add(line, at, b"No such file or directory"),
         libc::ENOMEM => add(line, at, b"Cannot allocate memory"),
         libc::EACCES => add(line, at, b"Permission denied"),
         libc::ENOTDIR => add(line, at, b"Not a directory"),
         libc::EISDIR => add(line, at, b"Is a directory"),
-        libc::EINVAL => add(line, at, b"Invalid argument"),
         libc::EMFILE => add(line, at, b"Too many open files"),
-        libc::EFBIG => add(line, at, b"File too large"),
-        libc::ENOSPC => add(line, at, b"No space left on device"),
-        libc::EPIPE => add(line, at, b"Broken pipe"),
         libc::ENAMETOOLONG => add(line, at, b"File name too long"),
         libc::ELOOP => add(line, at, b"Too many levels of symbolic links"),
-        _ => add_number(line, at, error),
+        _ => add_descriptor_error(line, at, error),
     }
 }
 
