@@ -9,8 +9,8 @@
 //   storm  every call fails with EINTR
 //   eio    the second call on a descriptor fails with EIO
 //   zero   a write takes nothing and answers 0
-// SHIM_FDS, as `0,1,3`, names the descriptors that it is for; without it, it is for all. Calls are counted for reading
-// and for writing apart, and for `eio` by descriptor.
+// SHIM_FDS, as `0,1,3`, names the descriptors that it is for, and SHIM_FOR the program, by the last part of its path; without
+// them it is for all. Calls are counted for reading and for writing apart, and for `eio` by descriptor.
 #define _GNU_SOURCE
 #include <errno.h>
 #include <stdlib.h>
@@ -32,9 +32,10 @@ static int is_set(const char *word) {
     return 0;
 }
 
-// Whether the descriptor is one of SHIM_FDS.
+// Whether the descriptor is one of SHIM_FDS, and the program SHIM_FOR.
 static int is_named(int fd) {
-    const char *at = getenv("SHIM_FDS");
+    const char *at = getenv("SHIM_FDS"), *program = getenv("SHIM_FOR");
+    if (program != NULL && strcmp(program, program_invocation_short_name) != 0) return 0;
     if (at == NULL) return 1;
     while (*at != '\0') {
         char *behind;

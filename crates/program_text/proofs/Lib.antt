@@ -1,5 +1,6 @@
--- Laws of what the programs print.
+-- Laws of what the programs print, and the demands of the printing functions.
 pub mod Shown
 pub mod PlanShown
 pub mod ClocksShown
 pub mod Front
+pub mod Demand

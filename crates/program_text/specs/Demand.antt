@@ -1,0 +1,24 @@
+-- Demands of the printing functions: statements about whatever they return and leave by their contracts. A program writes the
+-- first r bytes of the buffer. proofs/Demand.antt proves them from the model's theorems.
+-- Assumes nothing.
+use mathlib.Core.Path.{_≡_}
+use mathlib.Core.List.{List, List·Memᴰ}
+use Prim.Native.Nat.{ℕ}
+use lib.ListN.{length, take}
+use Rattle.model.specs.Text.{Bytes, bytes}
+use Rattle.model.specs.Drawn.{StarredRow, prints, starred}
+use Rattle.plan_text.specs.Writing.{writeAt}
+
+-- a printing function returned r, and left a buffer as new, for what a program prints
+pub record PrintedTo (shown : Bytes) (old : List ℕ) (r : ℕ) (new : List ℕ) : Type 0 where
+  pub count : r ≡ length shown
+  pub holds : new ≡ writeAt 0 shown old
+
+-- what a program writes is what it is to print
+abbrev pub WritesShown : Type 0
+WritesShown = (shown : Bytes) (old : List ℕ) (r : ℕ) (new : List ℕ) → PrintedTo shown old r new → take r new ≡ shown
+
+-- "starred ones are proved": for each starred row, whatever the buffer held, these bytes are written
+abbrev pub StarredWritten : Type 0
+StarredWritten = (k : StarredRow) → List·Memᴰ k starred → (old : List ℕ) (r : ℕ) (new : List ℕ)
+    → PrintedTo (prints (k .program) (bytes (k .network)) (bytes (k .plan))) old r new → take r new ≡ bytes (k .output)

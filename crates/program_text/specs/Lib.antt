@@ -1,0 +1,2 @@
+-- What the printing functions promise besides their contracts.
+pub mod Demand
