@@ -17,29 +17,22 @@ pub fn put_version(name: &[u8]) -> u8 {
     put(name, &line[..n], ANSWERED)
 }
 
-// The line of a help text that names the program again.
-fn put_status_line(name: &[u8]) -> u8 {
-    let mut line = [0u8; 96];
-    let next = add(&mut line, 0, b"The exit status is always 0; penthluk ");
-    let middle = add(&mut line, next, name);
-    let behind = add(&mut line, middle, b" gives one.");
-    let n = end(&mut line, behind);
-    put(name, &line[..n], ANSWERED)
-}
-
-fn put_options(name: &[u8]) -> bool {
-    put_part(
+// What all programs have.
+fn put_options(name: &[u8]) -> u8 {
+    put(
         name,
         b"  --help     show this text\n  \
             --version  show the version\n  \
-            --status   write 0, 1 or 2 to descriptor 3 at the end: answered, refused, no answer\n",
+            --status   write 0, 1 or 2 to descriptor 3 at the end: answered, refused, no answer\n\
+          The exit status is always 0; the command penthluk gives one.\n",
+        ANSWERED,
     )
 }
 
-// The program's own lines, then what all programs have. Nothing is written after a write that failed.
+// The program's own lines, then the others. Nothing is written after a write that failed.
 pub fn put_help(name: &[u8], help: &[u8]) -> u8 {
-    if put_part(name, help) && put_options(name) {
-        return put_status_line(name);
+    if put_part(name, help) {
+        return put_options(name);
     }
     NO_ANSWER
 }

@@ -1,5 +1,5 @@
-//! Time of the built programs from start to end on the longest texts, over that of the Rust version
-//! as a program and of earlier builds, in one run:
+//! Time of the built programs on the longest texts, from start to the last byte of the answer through
+//! a pipe, over that of earlier builds and of the Rust version as a program, in one run:
 //! `cargo run --release --offline --manifest-path tests/rust/Cargo.toml --example program_speed BIN
 //! [EARLIER..]`, each a folder of programs. The example `plain_program` is to be built before.
 
@@ -47,13 +47,13 @@ fn main() {
 /// The least time of each command, and the ratio of the first to each other.
 fn show(case: &Case, mut commands: Vec<Command>) {
     for command in &mut commands {
-        command.args(&case.files).stdin(Stdio::null()).stdout(Stdio::null());
+        command.args(&case.files).stdin(Stdio::null());
     }
     let mut least = vec![Duration::MAX; commands.len()];
     for _ in 0..ROUNDS {
         for (command, least) in commands.iter_mut().zip(&mut least) {
             let start = Instant::now();
-            assert!(command.status().expect("a run").success());
+            assert!(command.output().expect("a run").status.success());
             *least = (*least).min(start.elapsed());
         }
     }
