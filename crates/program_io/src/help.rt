@@ -24,7 +24,7 @@ fn put_options(name: &[u8]) -> u8 {
         b"  --help     show this text\n  \
             --version  show the version\n  \
             --status   write 0, 1 or 2 to descriptor 3 at the end: answered, refused, no answer\n\
-          The exit status is always 0; the command penthluk gives one.\n",
+          By itself this program always ends with 0; under the command penthluk it ends with 0, 1 or 2.\n",
         ANSWERED,
     )
 }

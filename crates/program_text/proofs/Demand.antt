@@ -8,7 +8,7 @@ use Rattle.model.specs.Text.{Bytes, bytes}
 use Rattle.model.specs.Drawn.{StarredRow, prints, starred}
 use Rattle.model.proofs.Demands.{drawn}
 use Rattle.plan_text.specs.Writing.{writeAt}
-use Rattle.program_text.specs.Demand.{PrintedTo, WritesShown, StarredWritten}
+use Rattle.program_text.specs.Demand.{WritesShown, StarredWritten}
 
 front : (xs ys : List ℕ) → take (length xs) (xs ++ ys) ≡ xs
 front [] ys = refl

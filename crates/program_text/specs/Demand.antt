@@ -4,15 +4,10 @@
 use mathlib.Core.Path.{_≡_}
 use mathlib.Core.List.{List, List·Memᴰ}
 use Prim.Native.Nat.{ℕ}
-use lib.ListN.{length, take}
+use lib.ListN.{take}
 use Rattle.model.specs.Text.{Bytes, bytes}
 use Rattle.model.specs.Drawn.{StarredRow, prints, starred}
-use Rattle.plan_text.specs.Writing.{writeAt}
-
--- a printing function returned r, and left a buffer as new, for what a program prints
-pub record PrintedTo (shown : Bytes) (old : List ℕ) (r : ℕ) (new : List ℕ) : Type 0 where
-  pub count : r ≡ length shown
-  pub holds : new ≡ writeAt 0 shown old
+use Rattle.program_text.specs.Printing.{PrintedTo}
 
 -- what a program writes is what it is to print
 abbrev pub WritesShown : Type 0

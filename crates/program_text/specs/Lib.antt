@@ -1,2 +1,3 @@
--- What the printing functions promise besides their contracts.
+-- What the contracts of this crate cite, and what follows of them.
+pub mod Printing
 pub mod Demand

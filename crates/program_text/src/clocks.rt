@@ -9,16 +9,15 @@ use plan_text::bits_at;
 use plan_text::check_form;
 use plan_text::put;
 use program_lines::put_refusal;
-ghost use mathlib.Core.Path.{_≡_};
 ghost use mathlib.Core.List.{[], _∷_};
 ghost use Prim.Native.Nat.{_+_, _*_, _≤_};
 ghost use lib.ListN.{length};
 ghost use Rattle.io.specs.Counts.{Counts};
 ghost use Rattle.model.specs.Printed.{line, clockProgram};
 ghost use Rattle.plan_text.specs.Form.{HasForm};
-ghost use Rattle.plan_text.specs.Writing.{writeAt};
 ghost use Rattle.clock_writer.specs.Clocks.{tmsBytes, tdiBytes};
 ghost use Rattle.program_lines.specs.Puts.{Puts};
+ghost use Rattle.program_text.specs.Printing.{PrintedTo};
 
 // Room for the lines of the longest plan. The plan's line of n bits has n + 5 bytes, and so have its TMS and its TDI;
 // `clk`, two tabs and the line's end are 6 more: 2 * 64,080 + 6 * 16 = 128,256 bytes. The line of a refusal is shorter.
@@ -54,8 +53,7 @@ fn put_operations(plan: &[u8], out: &mut [u8]) -> usize
 
 // What the clock program prints for a plan text, at the front of a buffer; its length.
 pub fn print_clocks(plan: &[u8], out: &mut [u8; ROOM]) -> usize
-    ensures { λ r. ⌜ r ≡ length (clockProgram (now (plan .entry))) ⌝ }
-    ensures { λ _. ⌜ now (out .exit) ≡ writeAt 0 (clockProgram (now (plan .entry))) (now (out .entry)) ⌝ }
+    ensures { λ r. ⌜ PrintedTo (clockProgram (now (plan .entry))) (now (out .entry)) r (now (out .exit)) ⌝ }
     ensures { λ r. ⌜ Counts r (now (out .exit)) ⌝ }
 {
     let form = check_form(plan);

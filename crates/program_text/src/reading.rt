@@ -3,14 +3,13 @@ use network_reader::reader::Acceptance;
 use network_reader::reader::read_network;
 use program_lines::put_line;
 use program_lines::put_refusal;
-ghost use mathlib.Core.Path.{_≡_};
 ghost use mathlib.Core.List.{[], _∷_};
 ghost use Prim.Native.Nat.{_≤_};
 ghost use lib.ListN.{length};
 ghost use Rattle.io.specs.Counts.{Counts};
 ghost use Rattle.model.specs.Printed.{number, line, readProgram};
-ghost use Rattle.plan_text.specs.Writing.{writeAt};
 ghost use Rattle.program_lines.specs.Puts.{Puts};
+ghost use Rattle.program_text.specs.Printing.{PrintedTo};
 
 // Room for `ok` and four fields, each a tab and at most 20 digits, and the line's end: 2 + 4 * 21 + 1 = 87 bytes.
 pub const ROOM: usize = 128;
@@ -26,8 +25,7 @@ fn put_counts(out: &mut [u8], nodes: usize, bits: usize, steering: usize, path: 
 
 // What the read program prints for a network text, at the front of a buffer; its length.
 pub fn print_reading(text: &[u8], out: &mut [u8; ROOM]) -> usize
-    ensures { λ r. ⌜ r ≡ length (readProgram (now (text .entry))) ⌝ }
-    ensures { λ _. ⌜ now (out .exit) ≡ writeAt 0 (readProgram (now (text .entry))) (now (out .entry)) ⌝ }
+    ensures { λ r. ⌜ PrintedTo (readProgram (now (text .entry))) (now (out .entry)) r (now (out .exit)) ⌝ }
     ensures { λ r. ⌜ Counts r (now (out .exit)) ⌝ }
 {
     let reading = read_network(text);
