@@ -4,11 +4,11 @@
 //   LD_PRELOAD=$PWD/shim.so SHIM=short program ..
 //
 // SHIM says what goes wrong, one word or several, as `short,eintr`:
-//   short  a call moves at most 7 bytes
-//   eintr  every second call, the first among them, fails with EINTR
-//   storm  every call fails with EINTR
-//   eio    the second call on a descriptor fails with EIO
-//   zero   a write takes nothing and answers 0
+//   short    a call moves at most 7 bytes
+//   eintr    every second call, the first among them, fails with EINTR
+//   endless  every call fails with EINTR
+//   eio      the second call on a descriptor fails with EIO
+//   zero     a write takes nothing and answers 0
 // SHIM_FDS, as `0,1,3`, names the descriptors that it is for, and SHIM_FOR the program, by the last part of its path; without
 // them it is for all. Calls are counted for reading and for writing apart, and for `eio` by descriptor.
 #define _GNU_SOURCE
@@ -51,7 +51,7 @@ static int is_named(int fd) {
 static int fault(int fd, unsigned *calls, unsigned *on) {
     unsigned turn = (*calls)++;
     unsigned here = fd >= 0 && fd < DESCRIPTORS ? on[fd]++ : 0;
-    if (is_set("storm")) return EINTR;
+    if (is_set("endless")) return EINTR;
     if (is_set("eintr") && turn % 2 == 0) return EINTR;
     if (is_set("eio") && here == 1) return EIO;
     return 0;

@@ -3,7 +3,6 @@
 use model::limits::MAX_NETWORK_BYTES;
 use model::limits::MAX_PLAN_BYTES;
 use program_io::finish::answer;
-use program_io::finish::give_up;
 use program_io::input::read_text;
 use program_io::start::begin;
 use program_text::mark::ROOM;
@@ -23,15 +22,13 @@ fn main() {
         return;
     }
     let mut network = [0u8; MAX_NETWORK_BYTES + 1];
-    let first = read_text(call.first, &mut network);
+    let first = read_text(name, call.reports, call.first, &mut network);
     if !first.is_read {
-        give_up(name, call.reports, call.first, first.error);
         return;
     }
     let mut plan = [0u8; MAX_PLAN_BYTES + 1];
-    let second = read_text(call.second, &mut plan);
+    let second = read_text(name, call.reports, call.second, &mut plan);
     if !second.is_read {
-        give_up(name, call.reports, call.second, second.error);
         return;
     }
     let n = first.count;

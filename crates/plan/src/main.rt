@@ -1,7 +1,6 @@
 // plan [NETWORK]: the plan text, nothing for a plan of no operations, or `fail` with number and place.
 use model::limits::MAX_NETWORK_BYTES;
 use program_io::finish::answer;
-use program_io::finish::give_up;
 use program_io::input::read_text;
 use program_io::start::begin;
 use program_text::plan::ROOM;
@@ -21,9 +20,8 @@ fn main() {
         return;
     }
     let mut text = [0u8; MAX_NETWORK_BYTES + 1];
-    let input = read_text(call.first, &mut text);
+    let input = read_text(name, call.reports, call.first, &mut text);
     if !input.is_read {
-        give_up(name, call.reports, call.first, input.error);
         return;
     }
     let n = input.count;

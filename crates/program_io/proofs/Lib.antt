@@ -1,2 +1,2 @@
--- Laws that several proofs of this crate cite.
-mod Within
+-- Laws that several proofs of this crate and its callers cite.
+pub mod Within

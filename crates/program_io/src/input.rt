@@ -2,6 +2,7 @@
 use crate::calls::MAX_INTERRUPTIONS;
 use crate::calls::Moved;
 use crate::calls::after_call;
+use crate::finish::give_up;
 use libc::EINTR;
 use libc::STDIN_FILENO;
 ghost use mathlib.Core.Path.{_≡_};
@@ -84,13 +85,24 @@ fn read_file(i: usize, text: &mut [u8]) -> Input
     input
 }
 
-// The text of operand i, an argument's number, or 0 for standard input. A buffer of one byte more than a text may have
-// lets a longer one reach the call that refuses it.
-pub fn read_text(i: usize, text: &mut [u8]) -> Input
+// The text of operand i, an argument's number, or 0 for standard input.
+fn read_operand(i: usize, text: &mut [u8]) -> Input
     ensures { λ r. ⌜ Counts (r .count) (now (text .exit)) ⌝ }
 {
     if i == 0 {
         return read_all(STDIN_FILENO, text);
     }
     read_file(i, text)
+}
+
+// The same; where it can't be read to its end, everything is said and reported. A buffer of one byte more than a text may
+// have lets a longer one reach the call that refuses it.
+pub fn read_text(name: &[u8], reports: bool, i: usize, text: &mut [u8]) -> Input
+    ensures { λ r. ⌜ Counts (r .count) (now (text .exit)) ⌝ }
+{
+    let input = read_operand(i, text);
+    if !input.is_read {
+        give_up(name, reports, i, input.error);
+    }
+    input
 }

@@ -10,8 +10,8 @@ use Rattle.io.specs.Counts.{Counts}
 use Rattle.plan_text.specs.Writing.{writeAt}
 use Rattle.program_text.specs.Printing.{PrintedTo}
 
-pub counted : (shown old : List ℕ) {new : List ℕ} {n : ℕ} → (n ≡ length shown) × (new ≡ writeAt 0 shown old) → PrintedTo shown old n new × Counts n new
+pub printed-to : (shown old : List ℕ) {new : List ℕ} {n : ℕ} → (n ≡ length shown) × (new ≡ writeAt 0 shown old) → PrintedTo shown old n new × Counts n new
 unfolding writeAt
-counted shown old {new = new} {n = n} (counts, holds) =
+printed-to shown old {new = new} {n = n} (counts, holds) =
     let fits : n ≤ length new = omega (arith, counts, ap length holds, length-append shown (drop (0 + length shown) old)) in
     (record { count = counts; holds = holds }, (fits, sym (length-take-le n new fits)))

@@ -2,10 +2,10 @@
 // `fail` with number and place.
 use model::limits::MAX_NETWORK_BYTES;
 use program_io::finish::answer;
-use program_io::finish::give_up;
 use program_io::input::read_text;
 use program_io::start::begin;
 use program_text::reading::ROOM;
+use program_text::reading::print_reading;
 
 fn main() {
     let name = b"read";
@@ -21,13 +21,12 @@ fn main() {
         return;
     }
     let mut text = [0u8; MAX_NETWORK_BYTES + 1];
-    let input = read_text(call.first, &mut text);
+    let input = read_text(name, call.reports, call.first, &mut text);
     if !input.is_read {
-        give_up(name, call.reports, call.first, input.error);
         return;
     }
     let n = input.count;
     let mut out = [0u8; ROOM];
-    let end = program_text::reading::print_reading(&text[..n], &mut out);
+    let end = print_reading(&text[..n], &mut out);
     answer(name, call.reports, &out[..end]);
 }

@@ -73,6 +73,11 @@ fn every_number_in_every_list() {
     let rows = first_cells(&sentences, "| Number | Definition |").into_iter();
     let listed = rows.flat_map(|cell| cell.split(',').map(number)).collect();
     assert_eq!(sorted(listed), constants, "docs/SENTENCES.md");
+    let page = read("command/penthluk.1");
+    let section = page.split("\n.SH ").find(|section| section.starts_with("REFUSALS"));
+    let rows = section.expect("REFUSALS").lines().filter_map(|line| line.strip_prefix(".B "));
+    let listed = rows.flat_map(|row| row.split(',').map(number)).collect();
+    assert_eq!(sorted(listed), constants, "command/penthluk.1");
 }
 
 /// The quoted words of the documents, as `network_draft/five_at_out` or `crates/model/specs`.

@@ -1,13 +1,11 @@
 -- `controller_table::put_states` is safe and ends: the states are below 16, and 69 bytes are enough for each line.
 -- Assumes nothing.
-use mathlib.Core.Path.{_≡_, sym}
-use mathlib.Core.List.{List}
-use Prim.Native.Nat.{ℕ, _-_, _*_, _≤_}
+use mathlib.Core.Path.{_≡_}
+use Prim.Native.Nat.{_-_, _*_, _≤_}
 use native.Mathlib.Omega.{arith}
 use borrow.Author.Needs.{needs}
 use lib.ListN.{length}
-use lib.Seq.{length-take-le}
-use Rattle.io.specs.Counts.{Counts}
+use Rattle.program_io.proofs.Within.{counted}
 use Rattle.controller_table.proofs.put_states.Statement.{statement}
 use Rattle.controller_table.proofs.put_states.Tie as tie
 
@@ -16,9 +14,6 @@ Inv-loop out₀ end₀ state₀ out end state = (end ≤ 69 * state) × (state �
 
 abbrev μ-loop : tie.MeasureT-loop
 μ-loop out₀ end₀ state₀ out end state = 16 - state
-
-counted : (n : ℕ) (l : List ℕ) → n ≤ length l → Counts n l
-counted n l h = (h, sym (length-take-le n l h))
 
 loop-holds : tie.Need-loop-holds Inv-loop μ-loop
 loop-holds c = search needs

@@ -7,7 +7,7 @@ use Rattle.model.proofs.PlanTexts.{text-of}
 use Rattle.plan_text.proofs.Forms.{form-good, form-refused}
 use Rattle.program_text.proofs.Shown.{at-front}
 use Rattle.program_text.proofs.ClocksShown.{clocks-refused}
-use Rattle.program_text.proofs.Front.{counted}
+use Rattle.program_text.proofs.Front.{printed-to}
 use Rattle.program_text.proofs.clocks.print_clocks.Statement.{statement}
 use Rattle.program_text.proofs.clocks.print_clocks.Tie as tie
 
@@ -29,12 +29,12 @@ put-refusal-requires : tie.Need-put-refusal-requires
 put-refusal-requires c κs = search needs
 
 returns : tie.Need-returns
-returns c = counted _ _ (at-front _ _ refl (c .put-operations .ensures))
+returns c = printed-to _ _ (at-front _ _ refl (c .put-operations .ensures))
 
 returns-2 : tie.Need-returns-2
 returns-2 c =
     let bad = form-refused _ _ _ (c .before .before .before .before .before .check-form .ensures) (c .before .before .before .form .given .1) in
-    counted _ _ (at-front _ _ (clocks-refused _ _ _ bad) (c .put-refusal .ensures))
+    printed-to _ _ (at-front _ _ (clocks-refused _ _ _ bad) (c .put-refusal .ensures))
 
 pub print-clocks-spec : {M : Type 1} → statement M
 print-clocks-spec =

@@ -4,7 +4,7 @@ use native.Mathlib.Omega.{arith}
 use borrow.Author.Needs.{needs}
 use Rattle.program_text.proofs.Shown.{at-front, mark-passed, mark-refused, few-rows}
 use Rattle.program_lines.proofs.Parts.{puts-more}
-use Rattle.program_text.proofs.Front.{counted}
+use Rattle.program_text.proofs.Front.{printed-to}
 use Rattle.program_text.proofs.mark.print_mark.Statement.{statement}
 use Rattle.program_text.proofs.mark.print_mark.Tie as tie
 
@@ -35,13 +35,13 @@ returns c =
     let answered = passed .before .before .before in
     let shown = mark-passed _ _ _ (answered .before .before .before .mark .ensures) _ _ (answered .verdict .given .1) in
     let both = puts-more (passed .put-pass .ensures .0) (c .put-gots .ensures) (omega (arith, passed .put-pass .ensures .1, passed .before .put-pass-arg .given .0 .1)) in
-    counted _ _ (at-front _ _ shown both)
+    printed-to _ _ (at-front _ _ shown both)
 
 returns-2 : tie.Need-returns-2
 returns-2 c =
     let answered = c .before .before .before in
     let shown = mark-refused _ _ _ (answered .before .before .before .mark .ensures) _ _ (answered .verdict2 .given .1) in
-    counted _ _ (at-front _ _ shown (c .put-refusal .ensures))
+    printed-to _ _ (at-front _ _ shown (c .put-refusal .ensures))
 
 pub print-mark-spec : {M : Type 1} → statement M
 print-mark-spec =

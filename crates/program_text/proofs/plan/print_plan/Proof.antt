@@ -2,7 +2,7 @@
 -- Assumes nothing.
 use borrow.Author.Needs.{needs}
 use Rattle.program_text.proofs.PlanShown.{plan-written, plan-refused}
-use Rattle.program_text.proofs.Front.{counted}
+use Rattle.program_text.proofs.Front.{printed-to}
 use Rattle.program_text.proofs.plan.print_plan.Statement.{statement}
 use Rattle.program_text.proofs.plan.print_plan.Tie as tie
 
@@ -24,13 +24,13 @@ put-refusal-requires c κs = search needs
 returns : tie.Need-returns
 returns c =
     let made = c .before .before .before .before .make-plan in
-    counted _ _ (plan-written _ _ _ (search needs) (search needs) _ _ _ (made .ensures) _ (c .before .planned .given .1))
+    printed-to _ _ (plan-written _ _ _ (search needs) (search needs) _ _ _ (made .ensures) _ (c .before .planned .given .1))
 
 returns-2 : tie.Need-returns-2
 returns-2 c =
     let answered = c .before .before .before in
     let made = answered .before .before .before .make-plan in
-    counted _ _
+    printed-to _ _
     (plan-refused _ _ _ (search needs) (search needs) _ _ _ (made .ensures) _ _ (answered .planned2 .given .1) (c .put-refusal .ensures))
 
 pub print-plan-spec : {M : Type 1} → statement M

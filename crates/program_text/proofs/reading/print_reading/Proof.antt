@@ -2,7 +2,7 @@
 -- Assumes nothing.
 use borrow.Author.Needs.{needs}
 use Rattle.program_text.proofs.Shown.{at-front, read-accepted, read-refused}
-use Rattle.program_text.proofs.Front.{counted}
+use Rattle.program_text.proofs.Front.{printed-to}
 use Rattle.program_text.proofs.reading.print_reading.Statement.{statement}
 use Rattle.program_text.proofs.reading.print_reading.Tie as tie
 
@@ -24,13 +24,13 @@ put-refusal-requires c κs = search needs
 returns : tie.Need-returns
 returns c =
     let shown = read-accepted _ _ (c .before .before .before .before .before .read-network .ensures) (c .before .before .enum-told .given .1) in
-    counted _ _ (at-front _ _ shown (c .put-counts .ensures))
+    printed-to _ _ (at-front _ _ shown (c .put-counts .ensures))
 
 returns-2 : tie.Need-returns-2
 returns-2 c =
     let answered = c .before .before .before in
     let shown = read-refused _ _ (answered .before .before .before .read-network .ensures) _ _ (answered .verdict .given .1) in
-    counted _ _ (at-front _ _ shown (c .put-refusal .ensures))
+    printed-to _ _ (at-front _ _ shown (c .put-refusal .ensures))
 
 pub print-reading-spec : {M : Type 1} → statement M
 print-reading-spec =
