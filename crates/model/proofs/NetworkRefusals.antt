@@ -1,6 +1,6 @@
 -- The reader refuses only with the rows of the network's refusals.
 -- Assumes nothing.
-use mathlib.Core.Path.{_≡_, refl, sym, ap, subst}
+use mathlib.Core.Path.{_≡_, refl, sym, ap, _∙_, subst}
 use mathlib.Core.Bool.{Bool, true, false, cond, not}
 use mathlib.Core.Option.{Option, none, some}
 use mathlib.Core.List.{List, [], _∷_}
@@ -8,18 +8,19 @@ use Prim.Native.Nat.{ℕ, zero, suc, _+_, _≤_, _<_}
 use native.Mathlib.Omega.{arith}
 use native.Mathlib.Nat.{not-suc-le-zero}
 use lib.ListN.{length, getD, drop}
-use lib.Dec.{leb, ltb}
-use borrow.Author.Tests.{ltb-true}
+use lib.Dec.{eqb, leb, ltb}
+use borrow.Author.Tests.{ltb-true, eqb-false, not-true}
 use Rattle.model.specs.Accepted.{WellFormed}
 use Rattle.model.specs.Drafted.{EachNode, Stage, no-out, behind-out, Sound}
 use Rattle.model.specs.Network.{Node, segment, multiplexer, Target, Network, at, noNode, isSegment, lenOf, totalBits, isSteering}
-use Rattle.model.specs.NetworkText.{Line, node, out, hold, target, lineOf, Draft, hasOut, outside, addNode, badAddress, firstBad, outIf, addOut, fitsBits, isHeld, addHold, targetSegment, fitsTarget, isTarget, addTarget, addLine, atEnd, readLines, networkOf, ifStarts, finish, noLines, readNetwork}
+use Rattle.model.specs.NetworkText.{Reset, badReset, Line, node, out, hold, target, lineOf, Draft, hasOut, outside, addNode, badAddress, firstBad, outIf, addOut, fitsBits, isHeld, addHold, targetSegment, fitsTarget, isTarget, addTarget, addLine, atEnd, readLines, networkOf, ifStarts, finish, noLines, readNetwork}
 use Rattle.model.specs.Path.{Walk, path, stop, bitOf, walk}
-use Rattle.model.specs.Places.{behindLines, IsLine, IsMux, NetworkRefusal, wrong-form, unended, out-of-bounds, too-large, too-long, out-of-order, out-missing, wrong-address, wrong-segment, target-steers, fifth-target, start-stops}
+use Rattle.model.specs.Places.{behindLines, IsLine, IsMux, IsWrongReset, NetworkRefusal, wrong-form, unended, out-of-bounds, too-large, too-long, out-of-order, out-missing, wrong-address, wrong-segment, target-steers, fifth-target, start-stops, wrong-reset}
 use Rattle.model.specs.Result.{Result, refused}
 use Rattle.model.specs.Text.{Bytes, lineEnd, parts, Trit}
 use Rattle.model.proofs.Accepted.{draft-formed}
 use Rattle.model.proofs.Ends.{Ends, gives, refuses, listed, ends-if, ends-then, line-at, is-line}
+use Rattle.model.proofs.LineForms.{mux-bare}
 use Rattle.model.proofs.Lists.{true-false, none-some, some-same}
 use Rattle.model.proofs.PlanTexts.{parts-more}
 use Rattle.model.proofs.Reading.{each-more, has-none, sound-line, sound-start}
@@ -50,7 +51,7 @@ bad-at all n m (x ∷ ns) e = go (badAddress all x) refl e (λ f. bad-at all (su
 module _ (t : Bytes) where
   -- node k stands on line k
   abbrev OnLine : ℕ → Node → Type 0
-  OnLine k x = lineOf (at (parts lineEnd t) k []) ≡ some (node x)
+  OnLine k x = (v : Reset) × (lineOf (at (parts lineEnd t) k []) ≡ some (node x v))
 
   abbrev NodesOn : List Node → Type 0
   NodesOn ns = EachNode OnLine ns
@@ -60,22 +61,29 @@ module _ (t : Bytes) where
     where
       go : (x : Node) → isSegment x ≡ false → OnLine (suc i) x → IsMux t (suc i)
       go (segment from len shadow) f e = absurd (true-false f)
-      go (multiplexer s b ins) f e = record { seg = s; bit = b; inputs = ins; says = e }
+      go (multiplexer s b ins) f (v, e) = record { seg = s; bit = b; inputs = ins; says = e ∙ ap (λ (w : Reset). some (node (multiplexer s b ins) w)) (mux-bare _ s b ins v e) }
 
   -- ---- one line
+
+  reset-line : (n : ℕ) (x : Node) (v : Reset) → lineOf (at (parts lineEnd t) n []) ≡ some (node x v) → badReset x v ≡ true → IsWrongReset t n
+  reset-line n x none e b = absurd (true-false (sym b))
+  reset-line n (segment from len shadow) (some bs) e b =
+      record { from = from; len = len; shadow = shadow; reset = bs; says = e; wrong = eqb-false (length bs) len (not-true (eqb (length bs) len) b) }
+  reset-line n (multiplexer s a ins) (some bs) e b = absurd (none-some bs (sym (mux-bare _ s a ins (some bs) e)))
 
   abbrev Keeps : Result Draft → Type 0
   Keeps r = Ends (NetworkRefusal t) (λ (d : Draft). NodesOn (d .nodes)) r
 
   module _ (d : Draft) (n : ℕ) (l : IsLine t n) (on : NodesOn (d .nodes)) where
-    node-ends : (x : Node) → Sound d n → OnLine n x → Keeps (addNode d n x)
+    node-ends : (x : Node) (v : Reset) → Sound d n → lineOf (at (parts lineEnd t) n []) ≡ some (node x v) → Keeps (addNode d n x v)
     unfolding addNode
-    node-ends x s e =
+    node-ends x v s e =
         ends-if (hasOut d) 4 n _ (λ h. out-of-order l)
         (λ h. ends-if (outside n x) 2 n _ (λ h. out-of-bounds l)
+        (λ _. ends-if (badReset x v) 18 n _ (λ h. wrong-reset (reset-line n x v e h))
         (λ _. ends-if (leb 128 (length (d .nodes))) 3 n _ (λ h. too-large l)
         (λ _. ends-if (ltb 4000 (totalBits (d .nodes) + lenOf x)) 3 n _ (λ h. too-large l)
-        (λ _. gives (each-more OnLine (d .nodes) x on (subst (λ (k : ℕ). OnLine k x) (next h (s .stage)) e))))))
+        (λ _. gives (each-more OnLine (d .nodes) x on (subst (λ (k : ℕ). OnLine k x) (next h (s .stage)) (v, e))))))))
       where
         next : hasOut d ≡ false → Stage d n → n ≡ suc (length (d .nodes))
         next h (no-out q m hs ts) = m
@@ -113,7 +121,7 @@ module _ (t : Bytes) where
 
     line-ends : (o : Option Line) → Sound d n → lineOf (at (parts lineEnd t) n []) ≡ o → Keeps (addLine d n o)
     line-ends none s e = refuses (wrong-form l)
-    line-ends (some (node x)) s e = node-ends x s e
+    line-ends (some (node x v)) s e = node-ends x v s e
     line-ends (some (out k)) s e = out-ends k
     line-ends (some (hold j bs)) s e = hold-ends j bs
     line-ends (some (target x)) s e = target-ends x
@@ -179,6 +187,7 @@ own-number (wrong-segment l) a b = omega arith
 own-number (target-steers l) a b = omega arith
 own-number (fifth-target l) a b = omega arith
 own-number (start-stops l) a b = omega arith
+own-number (wrong-reset l) a b = omega arith
 
 pub network-number : (n : Bytes) (number place : ℕ) → readNetwork n ≡ refused number place → 10 ≤ number → number ≤ 13 → ⊥
 network-number n number place e = let l = listed (network-ends n) in own-number (rw e at l)

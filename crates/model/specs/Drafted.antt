@@ -34,6 +34,14 @@ EachNode P ns = (i : ℕ) → i < length ns → P (suc i) (getD ns i noNode)
 abbrev pub HoldsFit : List Node → List Held → Type 0
 HoldsFit ns hs = (h : Held) → List·Memᴰ h hs → length (h .bits) ≡ lenOf (at ns (h .segmentNumber) noNode)
 
+-- a RESET: under the number of a node, and as long as it
+pub record ResetFits (ns : List Node) (h : Held) : Type 0 where
+  pub among : h .segmentNumber ≤ length ns
+  pub as-long : length (h .bits) ≡ lenOf (at ns (h .segmentNumber) noNode)
+
+abbrev pub ResetsFit : List Node → List Held → Type 0
+ResetsFit ns rs = (h : Held) → List·Memᴰ h rs → ResetFits ns h
+
 -- ---- the draft before line n
 
 pub data Stage (d : Draft) (n : ℕ) : Type 0 where
@@ -45,4 +53,5 @@ pub record Sound (d : Draft) (n : ℕ) : Type 0 where
   pub nodes-placed : EachNode Placed (d .nodes)
   pub few-nodes : length (d .nodes) ≤ maxNodes
   pub few-bits : totalBits (d .nodes) ≤ maxBits
+  pub resets-fit : ResetsFit (d .nodes) (d .resets)
   pub stage : Stage d n

@@ -1,7 +1,8 @@
--- The table of refusals: a row for each number, with the places that it can have (document 01, "Numbers and places").
+-- The table of refusals: a row for each number, with the places that it can have (document 01, "Numbers and places"; document 02).
 -- Assumes nothing.
 use mathlib.Core.Path.{_≡_}
-use mathlib.Core.Option.{some}
+use mathlib.Core.Bool.{Bool}
+use mathlib.Core.Option.{none, some}
 use mathlib.Core.Logic.{_⊎_}
 use mathlib.Core.List.{List, []}
 use Prim.Native.Nat.{ℕ, suc, _≤_, _<_}
@@ -9,8 +10,8 @@ use lib.ListN.{length}
 use Rattle.model.specs.Limits.{maxTargets, maxNetworkBytes, maxOperations, maxPlanBytes, maxSteeringBits, searchSize}
 use Rattle.model.specs.Refusals as refusal
 use Rattle.model.specs.Result.{Result, ok, refused}
-use Rattle.model.specs.Text.{Bytes, lineEnd, parts}
-use Rattle.model.specs.Network.{multiplexer, Network, at, steeringBits}
+use Rattle.model.specs.Text.{Bytes, lineEnd, parts, Trit}
+use Rattle.model.specs.Network.{segment, multiplexer, Network, at, steeringBits}
 use Rattle.model.specs.Plan.{Plan, ValidPlan}
 use Rattle.model.specs.Tap.{Clock}
 use Rattle.model.specs.NetworkText.{node, lineOf, readNetwork}
@@ -31,7 +32,16 @@ pub record IsMux (t : Bytes) (n : ℕ) : Type 0 where
   pub seg : ℕ
   pub bit : ℕ
   pub inputs : List ℕ
-  pub says : lineOf (at (parts lineEnd t) n []) ≡ some (node (multiplexer seg bit inputs))
+  pub says : lineOf (at (parts lineEnd t) n []) ≡ some (node (multiplexer seg bit inputs) none)
+
+-- "at the line .. a RESET whose length is not LEN"
+pub record IsWrongReset (t : Bytes) (n : ℕ) : Type 0 where
+  pub from : ℕ
+  pub len : ℕ
+  pub shadow : Bool
+  pub reset : List Trit
+  pub says : lineOf (at (parts lineEnd t) n []) ≡ some (node (segment from len shadow) (some reset))
+  pub wrong : length reset ≡ len → ⊥
 
 -- the number of an operation: of a line of the plan, at most 16
 abbrev pub IsOperation : Bytes → ℕ → Type 0
@@ -83,6 +93,8 @@ pub data NetworkRefusal (t : Bytes) : ℕ → ℕ → Type 0 where
   fifth-target : {n : ℕ} → IsLine t n → NetworkRefusal t refusal.targetCount n
   -- "9, mux's number | start not valid; first multiplexer met"
   start-stops : {n : ℕ} → IsMux t n → NetworkRefusal t refusal.start n
+  -- "18, at the line and directly after 2, a RESET whose length is not LEN"
+  wrong-reset : {n : ℕ} → IsWrongReset t n → NetworkRefusal t refusal.resetLength n
 
 -- the planner's own
 pub data PlannerRefusal (n : Bytes) (search plan : List ℕ) : ℕ → ℕ → Type 0 where

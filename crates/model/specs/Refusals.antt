@@ -1,4 +1,4 @@
--- The numbers of the refusals by name, in the order of document 01's table, "Numbers and places".
+-- The numbers of the refusals by name, in the order of document 01's table, "Numbers and places", then as document 02 adds them.
 -- Assumes nothing.
 use Prim.Native.Nat.{ℕ}
 
@@ -69,3 +69,7 @@ configuration = 16
 -- "17, target: not accessed, or not holding its bits; lowest target"
 abbrev pub target : ℕ
 target = 17
+
+-- document 02, Change 1: "18, at the line .. a RESET whose length is not LEN"
+abbrev pub resetLength : ℕ
+resetLength = 18

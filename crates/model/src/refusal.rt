@@ -1,4 +1,5 @@
-// The numbers of the refusals by name, as specs/Refusals.antt has them, in the order of document 01's table, "Numbers and places".
+// The numbers of the refusals by name, as specs/Refusals.antt has them: in the order of document 01's table, "Numbers and places", then as
+// document 02 adds them.
 
 // "1, line: word, field count or field form wrong; last line unended"
 pub const FORM: usize = 1;
@@ -50,3 +51,6 @@ pub const CONFIGURATION: usize = 16;
 
 // "17, target: not accessed, or not holding its bits; lowest target"
 pub const TARGET: usize = 17;
+
+// document 02, Change 1: "18, at the line .. a RESET whose length is not LEN"
+pub const RESET_LENGTH: usize = 18;

@@ -66,7 +66,7 @@ module _ {a : Arrays} {t : Summary} {d : Draft} {n : ℕ} (w : Represents a t d 
     numbers-of-targets = w .numbers-of-targets;
     steering-is = w .steering-is;
     steering-small = w .steering-small;
-    held-is = w .held-is;
+    flag-is = w .flag-is;
     start-is = w .start-is;
     bits-are = w .bits-are;
     known-are = w .known-are;

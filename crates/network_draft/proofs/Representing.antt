@@ -1,16 +1,16 @@
 -- Laws of the arrays that represent a draft.
 -- Assumes nothing.
 use mathlib.Core.Path.{_≡_, refl, sym, ap, _∙_, subst}
-use mathlib.Core.Bool.{Bool, true, false, cond, _||_}
+use mathlib.Core.Bool.{Bool, true, false, _||_}
 use mathlib.Core.List.{List, [], _∷_, _++_}
 use Prim.Native.Nat.{ℕ, zero, suc, _+_, _≤_, _<_}
 use native.Mathlib.Omega.{arith}
 use native.Mathlib.Decide.{decLt}
 use lib.ListN.{length, getD, List·getD-eq-default}
-use lib.Dec.{eqb, leb, ltb}
-use borrow.Author.Tests.{ltb-true, ltb-false}
+use lib.Dec.{leb, ltb}
+use borrow.Author.Tests.{ltb-false}
 use Rattle.model.specs.Result.{Result, ok, refused}
-use Rattle.model.specs.Network.{Node, segment, multiplexer, tabulate, noNode, lenOf, steers, steersAt, at}
+use Rattle.model.specs.Network.{Node, segment, multiplexer, noNode, lenOf, steers, steersAt, at}
 use Rattle.model.specs.Path.{nodeOf}
 use Rattle.model.specs.NetworkText.{Draft, hasOut, isSome, outside}
 use Rattle.model.specs.Drafted.{GoodForm}
@@ -21,8 +21,9 @@ use Rattle.network_draft.specs.declared.store.Summary.{Summary}
 use Rattle.network_draft.specs.declared.add.Refusal.{Refusal}
 use Rattle.network_draft.specs.declared.add.Refusal.the-variants.{Nothing, Refused}
 use Rattle.network_draft.specs.Store.{NumbersStored}
+use Rattle.network_draft.specs.Numbers.{numbersFor}
 use Rattle.network_draft.specs.Represents.{feedsOf, Formed, Short, Arrays, Represents, Agrees}
-use Rattle.network_draft.proofs.Nodes.{node-by-fields}
+use Rattle.network_draft.proofs.Nodes.{node-by-fields, node-numbers}
 
 -- ---- answers
 
@@ -52,16 +53,10 @@ unfolding steers
 steers-more [] x s b = or-false-right (steersAt x s b)
 steers-more (n ∷ ns) x s b = ap (λ (t : Bool). steersAt n s b || t) (steers-more ns x s b) ∙ or-assoc (steersAt n s b) (steers ns s b) (steersAt x s b)
 
--- the kind number of a node of good form
-pub kind-small : (ns : List ℕ) (k : ℕ) → GoodForm (nodeAt ns k) → fieldAt ns k 0 ≤ 4
-unfolding nodeAt
-kind-small ns k g = go (ltb (fieldAt ns k 0) 2) refl g
-  where
-    go : (t : Bool) → ltb (fieldAt ns k 0) 2 ≡ t
-        → GoodForm (cond t (segment (fieldAt ns k 1) (fieldAt ns k 2) (eqb (fieldAt ns k 0) 1))
-        (multiplexer (fieldAt ns k 1) (fieldAt ns k 2) (tabulate (λ i. fieldAt ns k (4 + i)) 0 (fieldAt ns k 0)))) → fieldAt ns k 0 ≤ 4
-    go true e h = let l = ltb-true (fieldAt ns k 0) 2 e in omega arith
-    go false e h = let l = length-tabulate (λ i. fieldAt ns k (4 + i)) 0 (fieldAt ns k 0) in omega (arith, h .1)
+-- no segment is longer than a word
+pub len-small : (k : ℕ) (x : Node) → outside k x ≡ false → lenOf x ≤ wordWidth
+len-small k (segment from len sh) e = let l = ltb-false 32 len (or-parts (leb k from || ltb len 1) (ltb 32 len) e .1) in omega arith
+len-small k (multiplexer s b ins) e = omega arith
 
 -- ---- what a representation says
 
@@ -86,23 +81,25 @@ module _ {a : Arrays} {t : Summary} {d : Draft} {n : ℕ} (w : Represents a t d 
       ap (λ (l : List Node). getD l k noNode) (sym (w .nodes-are)) ∙ getD-tabulate (nodeAt (a .nodes)) 1 (t .count) k noNode (omega arith)
       ∙ ap (nodeAt (a .nodes)) (let z : 1 + k ≡ suc k = omega arith in z)
 
-  pub represented-kind : (k : ℕ) → 1 ≤ k → k ≤ t .count → fieldAt (a .nodes) k 0 ≤ 4
-  represented-kind zero lo hi = absurd (omega arith)
-  represented-kind (suc k) lo hi =
-      kind-small (a .nodes) (suc k) (subst GoodForm (represented-node (suc k) lo hi) (w .sound .nodes-placed k (omega (arith, represented-count)) .form))
+  -- the number of its kind
+  kind-small : (k : ℕ) → fieldAt (a .nodes) k 0 ≤ 4
+  kind-small k = subst (λ (x : ℕ). x ≤ 4) (sym (w .numbers-are k 0 (omega arith))) (go k)
+    where
+      go : (k : ℕ) → getD (numbersFor (at (d .nodes) k noNode)) 0 0 ≤ 4
+      go zero = omega arith
+      go (suc k) = by (decLt k (length (d .nodes)))
+        where
+          by : Dec (k < length (d .nodes)) → getD (numbersFor (getD (d .nodes) k noNode)) 0 0 ≤ 4
+          by (yes l) = node-numbers (getD (d .nodes) k noNode) (w .sound .nodes-placed k l .form) .kind
+          by (no l) = let e = ap (λ (x : Node). getD (numbersFor x) 0 0) (List·getD-eq-default (d .nodes) noNode {n = k} (omega arith)) in omega arith
 
-  -- the nodes before one that is stored stay
-  pub kept-node : (numbers ns′ : List ℕ) (j : ℕ) → NumbersStored (a .nodes) j numbers ns′ → t .count < j → (k : ℕ) → 1 ≤ k → k ≤ t .count → nodeAt ns′ k ≡ nodeAt (a .nodes) k
-  kept-node numbers ns′ j s l k lo hi = node-by-fields ns′ (a .nodes) k k (λ i h. s .others k i (λ z. omega arith) h) (represented-kind k lo hi)
+  -- where a node is stored, the others stay
+  pub kept-node : (numbers ns′ : List ℕ) (j : ℕ) → NumbersStored (a .nodes) j numbers ns′ → (k : ℕ) → (k ≡ j → ⊥) → nodeAt ns′ k ≡ nodeAt (a .nodes) k
+  kept-node numbers ns′ j s k ne = node-by-fields ns′ (a .nodes) k k (λ i h. s .others k i ne h) (kind-small k)
 
   -- a LEN that was looked up
   pub represented-len : (r s : ℕ) → r ≡ lenOf (nodeOf (nodesOf (a .nodes) (t .count)) s) → lenOf (at (d .nodes) s noNode) ≡ r
   represented-len r s e = ap (λ (l : List Node). lenOf (at l s noNode)) (sym (w .nodes-are)) ∙ sym e
-
-  -- no segment is longer than a word
-  len-small : (k : ℕ) (x : Node) → outside k x ≡ false → lenOf x ≤ wordWidth
-  len-small k (segment from len sh) e = let l = ltb-false 32 len (or-parts (leb k from || ltb len 1) (ltb 32 len) e .1) in omega arith
-  len-small k (multiplexer s b ins) e = omega arith
 
   pub represented-short : (s : ℕ) → lenOf (at (d .nodes) s noNode) ≤ wordWidth
   represented-short zero = omega arith

@@ -13,14 +13,14 @@ use Rattle.network_draft.specs.declared.store.Summary.{Summary}
 use Rattle.network_line.specs.declared.NodeData.{NodeData}
 use Rattle.network_draft.specs.declared.add.Added.{Added}
 use Rattle.network_draft.specs.declared.add.Refusal.{Refusal}
-use Rattle.network_line.specs.Line.{nodeFor, bitsIn}
+use Rattle.network_line.specs.Line.{nodeFor, bitsIn, resetIn}
 use Rattle.network_draft.specs.Numbers.{targetWord}
-use Rattle.network_draft.specs.Represents.{arrays, Represents, Agrees, targetFor}
+use Rattle.network_draft.specs.Represents.{Arrays, arrays, Represents, Agrees, targetFor}
 
-abbrev pub NodeAdded : List ℕ → List ℕ → Summary → ℕ → NodeData → Added → List ℕ → List ℕ → Type 0
-NodeAdded ns steering t n x r ns′ steering′ =
-    (bits known held : List ℕ) (d : Draft) → Represents (arrays ns bits known steering held) t d n
-    → Agrees (λ e. Represents (arrays ns′ bits known steering′ held) (r .summary) e (suc n)) (addNode d n (nodeFor x)) (r .refusal)
+abbrev pub NodeAdded : Arrays → Summary → ℕ → NodeData → Bytes → Added → Arrays → Type 0
+NodeAdded a t n x f r b =
+    (d : Draft) → isSome (bitsFrom trit [] f) ≡ true → Represents a t d n
+    → Agrees (λ e. Represents b (r .summary) e (suc n)) (addNode d n (nodeFor x) (resetIn f)) (r .refusal)
 
 abbrev pub OutAdded : List ℕ → Summary → ℕ → ℕ → Added → Type 0
 OutAdded ns t n k r =

@@ -15,7 +15,7 @@ use Rattle.model.specs.NetworkText.{Draft, isHeld, isTarget}
 use Rattle.model.specs.Drafted.{GoodForm, Sound}
 use Rattle.network_words.specs.Words.{wordWidth, wordBit, tritsOf, bitsWord, knownWord}
 use Rattle.network_path.specs.Layout.{nodeAt, nodesOf, nodeFields, nodeNumbers}
-use Rattle.network_draft.specs.Store.{Small}
+use Rattle.network_draft.specs.Store.{byHold, byReset, Small}
 use Rattle.network_draft.specs.Numbers.{NodesStored, TargetsStored}
 use Rattle.network_draft.specs.declared.store.Summary.{Summary}
 use Rattle.network_draft.specs.declared.add.Refusal.{Refusal}
@@ -56,6 +56,14 @@ Formed ns count = (k : ℕ) → 1 ≤ k → k ≤ count → GoodForm (nodeAt ns 
 abbrev pub Short : List ℕ → ℕ → Type 0
 Short ns count = (k : ℕ) → 1 ≤ k → k ≤ count → lenOf (nodeAt ns k) ≤ wordWidth
 
+-- where the start bits of segment s come from: its `hold` line, else its RESET
+abbrev pub startFlag : Draft → ℕ → ℕ
+startFlag d s = cond (isHeld (d .holds) s) byHold (cond (isHeld (d .resets) s) byReset 0)
+
+-- and what they are, else these
+abbrev pub givenOr : List Trit → Draft → ℕ → List Trit
+givenOr other d s = heldOr (heldOr other (d .resets) s) (d .holds) s
+
 -- a number, or 0 for none
 abbrev pub ifNonzero : ℕ → Option ℕ
 ifNonzero zero = none
@@ -76,6 +84,7 @@ pub record Arrays : Type 0 where
   pub bits : List ℕ
   pub known : List ℕ
   pub steering : List ℕ
+  -- where start bits come from (`startFlag`)
   pub held : List ℕ
 
 abbrev pub arrays : List ℕ → List ℕ → List ℕ → List ℕ → List ℕ → Arrays
@@ -101,13 +110,13 @@ pub record Represents (a : Arrays) (t : Summary) (d : Draft) (n : ℕ) : Type 0 
   -- bit b of a segment's word of steering bits
   pub steering-is : (s b : ℕ) → s ≤ maxNodes → b < wordWidth → wordBit (getD (a .steering) s 0) b ≡ steers (d .nodes) s b
   pub steering-small : Small (a .steering)
-  -- a segment's flag of a `hold` line, and its start bits
-  pub held-is : (s : ℕ) → s ≤ maxNodes → eqb (getD (a .held) s 0) 1 ≡ isHeld (d .holds) s
+  -- where a segment's start bits come from, and what they are
+  pub flag-is : (s : ℕ) → s ≤ maxNodes → getD (a .held) s 0 ≡ startFlag d s
   pub start-is : (s : ℕ) → s ≤ maxNodes → (other : List Trit)
-      → heldOr other (d .holds) s ≡ cond (eqb (getD (a .held) s 0) 1) (tritsOf (lenOf (nodeAt (a .nodes) s)) (getD (a .bits) s 0) (getD (a .known) s 0)) other
-  -- the words of start bits; both are 0 without a `hold` line
-  pub bits-are : (s : ℕ) → getD (a .bits) s 0 ≡ bitsWord (heldOr [] (d .holds) s)
-  pub known-are : (s : ℕ) → getD (a .known) s 0 ≡ knownWord (heldOr [] (d .holds) s)
+      → givenOr other d s ≡ cond (eqb (getD (a .held) s 0) 0) other (tritsOf (lenOf (nodeAt (a .nodes) s)) (getD (a .bits) s 0) (getD (a .known) s 0))
+  -- the words of start bits; both are 0 without RESET and `hold`
+  pub bits-are : (s : ℕ) → getD (a .bits) s 0 ≡ bitsWord (givenOr [] d s)
+  pub known-are : (s : ℕ) → getD (a .known) s 0 ≡ knownWord (givenOr [] d s)
   pub sound : Sound d n
 
 abbrev pub emptySummary : Summary

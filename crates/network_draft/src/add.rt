@@ -1,11 +1,14 @@
 // One line more: each kind of line, with its refusals in order.
 use crate::bad::first_bad;
+use crate::store::BY_HOLD;
 use crate::store::Summary;
 use crate::store::flag_of;
 use crate::store::mark_steering;
 use crate::store::narrow;
 use crate::store::numbers_of;
+use crate::store::reset_flag;
 use crate::store::store_numbers;
+use crate::store::store_start;
 use model::limits::MAX_BITS;
 use model::limits::MAX_NODES;
 use model::limits::MAX_TARGETS;
@@ -24,12 +27,13 @@ ghost use lib.ListN.{length};
 ghost use mathlib.Core.Path.{_≡_};
 ghost use Rattle.network_line.specs.Line.{SmallNode};
 ghost use Prim.Native.Nat.{_≤_};
-ghost use Rattle.network_draft.specs.Represents.{InLimits, Formed, Short, sameWord, IsThere};
+ghost use Rattle.network_draft.specs.Represents.{InLimits, Formed, Short, sameWord, IsThere, arrays, Sized};
+ghost use Rattle.network_draft.specs.Store.{unfitReset};
 ghost use Rattle.network_draft.specs.Added.{NodeAdded, OutAdded, HoldAdded, TargetAdded, ReadAdded, WriteAdded};
 ghost use Rattle.model.specs.Limits.{maxNodes};
 ghost use Rattle.model.specs.Network.{lenOf};
 ghost use Rattle.model.specs.Path.{nodeOf};
-ghost use Rattle.network_path.specs.Layout.{nodesOf, nodeFields, nodeNumbers};
+ghost use Rattle.network_path.specs.Layout.{nodesOf, nodeNumbers};
 
 // Nothing refused, or a refusal's number and place.
 pub enum Refusal {
@@ -52,10 +56,30 @@ fn refuse(t: Summary, number: usize, place: usize) -> Added
     }
 }
 
-// A node line: 4, 2, 3.
-pub fn add_node(nodes: &mut Nodes, steering: &mut Words, t: Summary, n: usize, x: NodeData) -> Added
-    requires { ⌜ (SmallNode x) × (InLimits t) × (length (now nodes) ≡ nodeFields) × (length (now steering) ≡ nodeNumbers) ⌝ }
-    ensures { λ r. ⌜ NodeAdded (now (nodes .entry)) (now (steering .entry)) t n x r (now (nodes .exit)) (now (steering .exit)) ⌝ }
+// Whether a RESET of so many bits is no RESET of a segment of len bits; 0 stands for a line without RESET.
+fn is_unfit(reset: usize, len: usize) -> bool
+    ensures { λ r. ⌜ r ≡ unfitReset reset len ⌝ }
+{
+    if reset == 0 {
+        return false;
+    }
+    reset != len
+}
+
+// A node line with its RESET field, which is empty where it has none: 4, 2, 18, 3.
+pub fn add_node(
+    nodes: &mut Nodes,
+    bits: &mut Words,
+    known: &mut Words,
+    steering: &mut Words,
+    held: &mut [u16; NODE_NUMBERS],
+    t: Summary,
+    n: usize,
+    x: NodeData,
+    reset: &[u8],
+) -> Added
+    requires { ⌜ (SmallNode x) × (InLimits t) × Sized (arrays (now nodes) (now bits) (now known) (now steering) (now held)) ⌝ }
+    ensures { λ r. ⌜ NodeAdded (arrays (now (nodes .entry)) (now (bits .entry)) (now (known .entry)) (now (steering .entry)) (now (held .entry))) t n x (now (reset .entry)) r (arrays (now (nodes .exit)) (now (bits .exit)) (now (known .exit)) (now (steering .exit)) (now (held .exit))) ⌝ }
 {
     if t.has_out {
         return refuse(t, refusal::ORDER, n);
@@ -63,17 +87,21 @@ pub fn add_node(nodes: &mut Nodes, steering: &mut Words, t: Summary, n: usize, x
     if is_outside(n, x) {
         return refuse(t, refusal::BOUNDS, n);
     }
+    let len = bits_of(x);
+    if is_unfit(reset.len(), len) {
+        return refuse(t, refusal::RESET_LENGTH, n);
+    }
     let count = t.count;
     if MAX_NODES <= count {
         return refuse(t, refusal::SIZE, n);
     }
-    let len = bits_of(x);
     let total = t.total;
     if MAX_BITS - total < len {
         return refuse(t, refusal::SIZE, n);
     }
     let k = count + 1;
     store_numbers(nodes, k, numbers_of(x));
+    store_start(bits, known, held, k, reset, reset_flag(reset.len()));
     mark_steering(steering, x);
     let mut next = t;
     next.count = k;
@@ -147,13 +175,10 @@ pub fn add_hold<'a>(
     if f.len() != len {
         return Refusal::Refused(refusal::ENTRY, n);
     }
-    if held[s] == 1 {
+    if held[s] == BY_HOLD {
         return Refusal::Refused(refusal::ENTRY, n);
     }
-    let w = words_of(f);
-    bits[s] = w.bits;
-    known[s] = w.known;
-    held[s] = 1;
+    store_start(bits, known, held, s, f, BY_HOLD);
     Refusal::Nothing
 }
 

@@ -1,11 +1,13 @@
 // The network as far as it is read: counts and targets go by value, the arrays are lent.
 use model::limits::MAX_NODES;
 use network_line::NodeData;
+use network_path::layout::NODE_NUMBERS;
 use network_path::layout::Nodes;
 use network_path::layout::Words;
 use network_words::WORD_BITS;
 use network_words::Word;
 use network_words::only_bit;
+use network_words::words_of;
 ghost use mathlib.Core.Path.{_≡_};
 ghost use mathlib.Core.Bool.{cond};
 ghost use Prim.Native.Nat.{_≤_};
@@ -14,7 +16,8 @@ ghost use lib.Dec.{ltb};
 ghost use Rattle.network_path.specs.Layout.{nodeFields, nodeNumbers};
 ghost use Rattle.model.specs.Limits.{maxNodes};
 ghost use Rattle.network_line.specs.Line.{nodeFor, SmallNode};
-ghost use Rattle.network_draft.specs.Store.{NumbersStored, Marked, BitMarked};
+ghost use Rattle.network_draft.specs.Store.{NumbersStored, resetFlag, StartStored, Marked, BitMarked};
+ghost use Rattle.network_words.specs.Words.{wordWidth};
 ghost use Rattle.network_draft.specs.Numbers.{numbersFor};
 
 // Counts, the node that feeds scan-out, and the targets: a target's word is 1 for `write` and 0 for `read`.
@@ -28,6 +31,11 @@ pub struct Summary {
     pub target_write: [u16; 4],
     pub target_bits: [Word; 4],
 }
+
+// Where a segment's start bits come from: its `hold` line, or the RESET of its own line; 0 where neither gives them.
+pub const BY_HOLD: u16 = 1;
+
+const BY_RESET: u16 = 2;
 
 pub fn narrow(x: usize) -> u16
     requires { ⌜ x ≤ 9999 ⌝ }
@@ -98,6 +106,34 @@ pub fn store_numbers(nodes: &mut Nodes, k: usize, numbers: [u16; 8])
         nodes[base + i] = numbers[i];
         i += 1;
     }
+}
+
+// Where the start bits of a segment come from behind its own line, whose RESET has so many bits; 0 stands for no RESET.
+pub fn reset_flag(reset: usize) -> u16
+    ensures { λ r. ⌜ r ≡ resetFlag reset ⌝ }
+{
+    if reset == 0 {
+        return 0;
+    }
+    BY_RESET
+}
+
+// The two words of a BITS or RESET field go to node s, with where they come from.
+pub fn store_start(
+    bits: &mut Words,
+    known: &mut Words,
+    held: &mut [u16; NODE_NUMBERS],
+    s: usize,
+    f: &[u8],
+    flag: u16,
+)
+    requires { ⌜ (s ≤ maxNodes) × (length (now f) ≤ wordWidth) × (length (now bits) ≡ nodeNumbers) × (length (now known) ≡ nodeNumbers) × (length (now held) ≡ nodeNumbers) ⌝ }
+    ensures { λ _. ⌜ StartStored (now (bits .entry)) (now (known .entry)) (now (held .entry)) s (now (f .entry)) flag (now (bits .exit)) (now (known .exit)) (now (held .exit)) ⌝ }
+{
+    let w = words_of(f);
+    bits[s] = w.bits;
+    known[s] = w.known;
+    held[s] = flag;
 }
 
 // The address bits of a node are marked in its segment's word of steering bits.

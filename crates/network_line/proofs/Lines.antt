@@ -13,21 +13,19 @@ use lib.Seq.{drop-cons, take-suc-set, getD-set-same, getD-set-other, ext-getD}
 use lib.Dec.{eqb}
 use borrow.Author.Tests.{eq-eqb, ne-eqb, le-leb, lt-leb, eqb-true, eqb-false}
 use Rattle.model.specs.Text.{Bytes, bind, inFirst, parts, fields, decimal, LineWord, Out, Hold, Write, Read, wordOf, bitsFrom, bitsField, bit, trit}
-use Rattle.model.specs.Network.{segment, multiplexer, tabulate}
-use Rattle.model.specs.NetworkText.{Line, node, hold, field, kind, decimals, segLine, muxLine, numberLine, bitsLine, lineBy, lineOf, isSome}
+use Rattle.model.specs.Network.{multiplexer, tabulate}
+use Rattle.model.specs.NetworkText.{Line, node, hold, field, decimals, muxLine, numberLine, bitsLine, lineBy, lineOf, isSome}
 use Rattle.model.proofs.Lists.{zero-at, getD-tabulate}
 use Rattle.text.specs.Numbers.{decimalOf, IsDecimal}
 use Rattle.text.specs.Bits.{bitsForm}
 use Rattle.text.specs.Places.{FieldAt}
 use Rattle.text.specs.declared.Number.{Number}
 use Rattle.text.proofs.Bits.{is-some, is-none, field-from}
-use Rattle.network_line.specs.Line.{kindFor, AreDecimals, bitsIn, IsEntry, plainLine, IsParsed, IsParsedLine}
-use Rattle.network_line.specs.declared.NodeData.the-variants.{Segment, Multiplexer}
+use Rattle.network_line.specs.Line.{AreDecimals, bitsIn, IsEntry, plainLine, IsParsed, IsParsedLine}
+use Rattle.network_line.specs.declared.NodeData.the-variants.{Multiplexer}
 use Rattle.network_line.specs.declared.Entry.{Entry}
 use Rattle.network_line.specs.declared.Entry.the-variants.{Wrong, Node as NodeEntry, Out as OutEntry, Hold as HoldEntry, Write as WriteEntry, Read as ReadEntry}
 use Rattle.network_line.specs.declared.ParsedLine.{ParsedLine}
-use Rattle.network_line.specs.declared.Kind.{Kind}
-use Rattle.network_line.specs.declared.Kind.the-variants.{Shadow, Plain, Unknown}
 use Rattle.network_line.specs.declared.Decimals.{Decimals}
 
 -- ---- what the functions find
@@ -48,35 +46,6 @@ read-as d e = sym (d .value) ∙ ap decimalOf e
 
 pub wrong : {f : Bytes} {o : Option Line} → none ≡ o → IsEntry f o Wrong
 wrong e = record { means = e; good = tt }
-
--- ---- `seg`
-
-abbrev pub segEntry : ℕ → ℕ → Kind → Entry
-segEntry from len Shadow = NodeEntry (Segment from len true)
-segEntry from len Plain = NodeEntry (Segment from len false)
-segEntry from len Unknown = Wrong
-
-pub seg-count : (fs : List Bytes) → (length fs ≡ 4 → ⊥) → none ≡ segLine fs
-unfolding segLine
-seg-count fs h = rw (ne-eqb (length fs) 4 h)
-
-module _ (fs : List Bytes) (h : length fs ≡ 4) where
-  by-parts : (from len : Option ℕ) (shadow : Option Bool) → decimal (field fs 1) ≡ from → decimal (field fs 2) ≡ len → kind (field fs 3) ≡ shadow
-      → bind from (λ f. bind len (λ n. bind shadow (λ s. some (node (segment f n s))))) ≡ segLine fs
-  unfolding segLine
-  by-parts from len shadow e f g = rw (eq-eqb (length fs) 4 h, e, f, g)
-
-  pub seg-from : decimal (field fs 1) ≡ none → none ≡ segLine fs
-  seg-from e = by-parts none _ _ e refl refl
-
-  pub seg-len : (from : ℕ) → decimal (field fs 1) ≡ some from → decimal (field fs 2) ≡ none → none ≡ segLine fs
-  seg-len from e f = by-parts (some from) none _ e f refl
-
-  pub seg-kind : (from len : ℕ) (k : Kind) → decimal (field fs 1) ≡ some from → decimal (field fs 2) ≡ some len → kindFor k ≡ kind (field fs 3)
-      → from ≤ 9999 → len ≤ 9999 → IsEntry [] (segLine fs) (segEntry from len k)
-  seg-kind from len Shadow e f g p q = record { means = by-parts _ _ _ e f (sym g); good = (p, q) }
-  seg-kind from len Plain e f g p q = record { means = by-parts _ _ _ e f (sym g); good = (p, q) }
-  seg-kind from len Unknown e f g p q = wrong (by-parts _ _ _ e f (sym g))
 
 -- ---- `out` and `read`
 
@@ -214,7 +183,7 @@ mux-many fs h = rw (le-leb 5 (length fs) (omega arith), lt-leb (length fs) 7 h)
 muxOf : List ℕ → Option Line
 muxOf [] = none
 muxOf (s ∷ []) = none
-muxOf (s ∷ b ∷ ins) = some (node (multiplexer s b ins))
+muxOf (s ∷ b ∷ ins) = some (node (multiplexer s b ins) none)
 
 by-numbers : (fs : List Bytes) (o : Option (List ℕ)) → 5 ≤ length fs → length fs ≤ 7 → decimals (drop 1 fs) ≡ o → bind o muxOf ≡ muxLine fs
 unfolding muxLine decimals muxOf
@@ -228,7 +197,7 @@ by-numbers (w ∷ f ∷ g ∷ fs) o h l e =
   where
     go : (s b : Option ℕ) (ins : Option (List ℕ))
         → bind (bind s (λ n. bind (bind b (λ m. bind ins (λ ns. some (m ∷ ns)))) (λ ns. some (n ∷ ns)))) muxOf
-        ≡ bind s (λ n. bind b (λ m. bind ins (λ ns. some (node (multiplexer n m ns)))))
+        ≡ bind s (λ n. bind b (λ m. bind ins (λ ns. some (node (multiplexer n m ns) none))))
     go none b ins = refl
     go (some s) none ins = refl
     go (some s) (some b) none = refl
@@ -246,14 +215,14 @@ module _ (fs : List Bytes) (r : Decimals) (d : AreDecimals fs r) (h : 5 ≤ leng
       (NodeEntry
       (Multiplexer (getD (r .values) 0 0) (getD (r .values) 1 0) (n - 3)
       (getD (r .values) 2 0) (getD (r .values) 3 0) (getD (r .values) 4 0) (getD (r .values) 5 0)))
-  unfolding muxOf
+  unfolding muxOf bitsFrom
   mux-line n e q =
       let m : length fs - 1 ≡ suc (suc (n - 3)) = omega arith in
       let g : some (take (length fs - 1) (r .values)) ≡ decimals (drop 1 fs) = sym (rw e) ∙ d .given in
       let t = ap (λ (k : ℕ). take k (r .values)) m ∙ ap (take (suc (suc (n - 3)))) (six (r .values) (d .long)) in
       record {
         means = by-numbers fs (some _) h l (sym (ap some (sym t) ∙ g));
-        good = (d .small 0, d .small 1, omega arith, omega arith, d .small 2, d .small 3, d .small 4, d .small 5);
+        good = ((d .small 0, d .small 1, omega arith, omega arith, d .small 2, d .small 3, d .small 4, d .small 5), refl);
       }
 
 -- ---- a whole line
@@ -261,10 +230,10 @@ module _ (fs : List Bytes) (r : Decimals) (d : AreDecimals fs r) (h : 5 ≤ leng
 pub plain-line : (l : Bytes) (o : Option Line) (e : Entry) (r : ParsedLine) → r ≡ plainLine e → IsEntry [] o e → IsParsed l o r
 plain-line l o e r q i = rw q (record { ordered = omega arith; within = omega arith; means = i .means; good = i .good })
 
--- a line whose BITS are field 2
-pub bits-at : (l : Bytes) (starts : List ℕ) (o : Option Line) (e : Entry) → FieldAt l starts 2 → IsEntry (field (fields l) 2) o e
-    → IsParsed l o record { entry = e; start = getD starts 2 0; end = getD starts 3 0 - 1 }
-bits-at l starts o e p i =
+-- a line whose BITS or RESET are field k
+pub bits-at : (k : ℕ) (l : Bytes) (starts : List ℕ) (o : Option Line) (e : Entry) → FieldAt l starts k → IsEntry (field (fields l) k) o e
+    → IsParsed l o record { entry = e; start = getD starts k 0; end = getD starts (k + 1) 0 - 1 }
+bits-at k l starts o e p i =
     record {
       ordered = omega (arith, p .ordered);
       within = omega (arith, p .within);

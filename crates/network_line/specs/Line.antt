@@ -6,9 +6,9 @@ use mathlib.Core.Option.{Option, none, some}
 use mathlib.Core.List.{List, [], _∷_}
 use Prim.Native.Nat.{ℕ, _-_, _≤_}
 use lib.ListN.{length, take, drop, getD}
-use Rattle.model.specs.Text.{Bytes, bit, trit, bitsFrom}
+use Rattle.model.specs.Text.{Bytes, bind, decimal, bit, trit, bitsFrom}
 use Rattle.model.specs.Network.{Node, segment, multiplexer, read, write}
-use Rattle.model.specs.NetworkText.{Line, node, out, hold, target, decimals, lineOf, isSome}
+use Rattle.model.specs.NetworkText.{Reset, Line, node, out, hold, target, field, kind, decimals, lineOf, isSome}
 use Rattle.text.specs.Places.{IsSplit}
 use Rattle.network_line.specs.declared.NodeData.{NodeData}
 use Rattle.network_line.specs.declared.NodeData.the-variants.{Segment, Multiplexer}
@@ -53,14 +53,19 @@ abbrev pub valueOr : {A : Type 0} → A → Option A → A
 valueOr other none = other
 valueOr other (some a) = a
 
--- the bits of a BITS field of good form
+-- the bits of a BITS or RESET field of good form
 abbrev pub bitsIn : {A : Type 0} → (ℕ → Option A) → Bytes → List A
 bitsIn one f = valueOr [] (bitsFrom one [] f)
 
--- what an entry says, with the bytes of its BITS field
+-- the RESET of these bytes; no bytes stand for no field
+abbrev pub resetIn : Bytes → Reset
+resetIn [] = none
+resetIn (b ∷ bs) = some (bitsIn trit (b ∷ bs))
+
+-- what an entry says, with the bytes of its BITS or RESET field
 abbrev pub entryMeans : Bytes → Entry → Option Line
 entryMeans f Wrong = none
-entryMeans f (NodeEntry x) = some (node (nodeFor x))
+entryMeans f (NodeEntry x) = some (node (nodeFor x) (resetIn f))
 entryMeans f (Out k) = some (out k)
 entryMeans f (Hold s) = some (hold s (bitsIn trit f))
 entryMeans f (Write s) = some (target (write s (bitsIn bit f)))
@@ -74,18 +79,26 @@ SmallNode (Multiplexer s b n i0 i1 i2 i3) = (s ≤ 9999) × (b ≤ 9999) × (2 �
 -- what the form of the line gives besides
 abbrev pub GoodEntry : Bytes → Entry → Type 0
 GoodEntry f Wrong = Unit {0}
-GoodEntry f (NodeEntry x) = SmallNode x
+GoodEntry f (NodeEntry x) = SmallNode x × (isSome (bitsFrom trit [] f) ≡ true)
 GoodEntry f (Out k) = k ≤ 9999
 GoodEntry f (Hold s) = (s ≤ 9999) × (isSome (bitsFrom trit [] f) ≡ true)
 GoodEntry f (Write s) = (s ≤ 9999) × (isSome (bitsFrom bit [] f) ≡ true)
 GoodEntry f (Read s) = s ≤ 9999
 
--- an entry that says o, with the bytes of its BITS field
+-- an entry that says o, with the bytes of its BITS or RESET field
 pub record IsEntry (f : Bytes) (o : Option Line) (e : Entry) : Type 0 where
   pub means : entryMeans f e ≡ o
   pub good : GoodEntry f e
 
--- a parsed line without BITS
+-- the segment of FROM, LEN and KIND, with this RESET
+abbrev pub segmentWith : List Bytes → Reset → Option Line
+segmentWith fs v = bind (decimal (field fs 1)) (λ from. bind (decimal (field fs 2)) (λ len. bind (kind (field fs 3)) (λ shadow. some (node (segment from len shadow) v))))
+
+-- an entry that says it, whatever the RESET is
+abbrev pub SaysSegment : List Bytes → Entry → Type 0
+SaysSegment fs e = (f : Bytes) → isSome (bitsFrom trit [] f) ≡ true → IsEntry f (segmentWith fs (resetIn f)) e
+
+-- a parsed line without BITS and RESET
 abbrev pub plainLine : Entry → ParsedLine
 plainLine e = record { entry = e; start = 0; end = 0 }
 

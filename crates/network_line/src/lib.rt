@@ -12,7 +12,7 @@ ghost use Rattle.model.specs.Text.{fields, Seg, Mux, Out, Hold, Write, Read};
 ghost use Rattle.model.specs.NetworkText.{field, kind, lineBy};
 ghost use Rattle.text.specs.Numbers.{IsDecimal};
 ghost use Rattle.text.specs.Places.{FieldStarts};
-ghost use Rattle.network_line.specs.Line.{kindFor, FieldsPlaced, AreDecimals, IsEntry, plainLine, IsParsed, IsParsedLine};
+ghost use Rattle.network_line.specs.Line.{kindFor, FieldsPlaced, AreDecimals, IsEntry, SaysSegment, plainLine, IsParsed, IsParsedLine};
 
 // A node is a segment or a multiplexer, and each kind has its own fields. An input that a multiplexer lacks is 0.
 pub enum NodeData {
@@ -42,7 +42,7 @@ pub enum Entry {
     Read(usize),
 }
 
-// A parsed line: what it says, and the place of its BITS field where it has one.
+// A parsed line: what it says, and the place of its BITS or RESET field where it has one.
 pub struct ParsedLine {
     pub entry: Entry,
     pub start: usize,
@@ -104,14 +104,11 @@ fn decimals_of(line: &[u8], starts: &[usize; 8], count: usize) -> Decimals
     Decimals { good: true, values }
 }
 
-// `seg FROM LEN KIND`.
-fn seg_line(line: &[u8], starts: &[usize; 8], count: usize) -> Entry
-    requires { ⌜ FieldsPlaced (now line) (now starts) count ⌝ }
-    ensures { λ r. ⌜ IsEntry [] (lineBy (fields (now (line .entry))) Seg) r ⌝ }
+// FROM, LEN and KIND of a `seg` line.
+fn segment_of(line: &[u8], starts: &[usize; 8]) -> Entry
+    requires { ⌜ (4 ≤ length (fields (now line))) × FieldStarts (now line) (now starts) ⌝ }
+    ensures { λ r. ⌜ SaysSegment (fields (now (line .entry))) r ⌝ }
 {
-    if count != 4 {
-        return Entry::Wrong;
-    }
     let a = number(line, starts, 1);
     let Number::Value(from) = a else {
         return Entry::Wrong;
@@ -134,6 +131,26 @@ fn seg_line(line: &[u8], starts: &[usize; 8], count: usize) -> Entry
         }),
         Kind::Unknown => Entry::Wrong,
     }
+}
+
+// `seg FROM LEN KIND [RESET]`.
+fn seg_line(line: &[u8], starts: &[usize; 8], count: usize) -> ParsedLine
+    requires { ⌜ FieldsPlaced (now line) (now starts) count ⌝ }
+    ensures { λ r. ⌜ IsParsed (now (line .entry)) (lineBy (fields (now (line .entry))) Seg) r ⌝ }
+{
+    if count == 4 {
+        return plain(segment_of(line, starts));
+    }
+    if count != 5 {
+        return plain(Entry::Wrong);
+    }
+    let start = starts[4];
+    let end = starts[5] - 1;
+    if !text::are_bits(&line[start..end], true) {
+        return plain(Entry::Wrong);
+    }
+    let entry = segment_of(line, starts);
+    ParsedLine { entry, start, end }
 }
 
 // `mux SEG BIT A B [C [D]]`.
@@ -180,7 +197,7 @@ fn number_line(line: &[u8], starts: &[usize; 8], count: usize, target: bool) -> 
     Entry::Out(n)
 }
 
-// A parsed line without BITS.
+// A parsed line without BITS and RESET.
 fn plain(entry: Entry) -> ParsedLine
     ensures { λ r. ⌜ r ≡ plainLine entry ⌝ }
 {
@@ -223,7 +240,7 @@ pub fn parse(line: &[u8]) -> ParsedLine
     let f = text::split(line);
     let w = text::word_of(text::field(line, &f.starts, 0));
     match w {
-        LineWord::Seg => plain(seg_line(line, &f.starts, f.count)),
+        LineWord::Seg => seg_line(line, &f.starts, f.count),
         LineWord::Mux => plain(mux_line(line, &f.starts, f.count)),
         LineWord::Out => plain(number_line(line, &f.starts, f.count, false)),
         LineWord::Hold => bits_line(line, &f.starts, f.count, true),

@@ -7,7 +7,6 @@ use mathlib.Core.List.{List, []}
 use Prim.Native.Nat.{ℕ, zero, suc, _+_, _*_, _≤_, _<_}
 use native.Mathlib.Omega.{arith}
 use lib.ListN.{length, getD, take, replicate, length-replicate}
-use lib.Dec.{eqb}
 use borrow.Author.Tests.{lt-ltb, le-ltb}
 use Rattle.model.specs.Result.{Result, ok, refused, refuseIf}
 use Rattle.model.specs.Text.{Bytes, parts, lineEnd}
@@ -68,7 +67,7 @@ represents-none = record {
   numbers-of-targets = λ i. record { segment-is = zero-at 4 i; flag-is = zero-at 4 i; word-is = zero-at 4 i };
   steering-is = λ s b l m. ap (λ (x : ℕ). wordBit x b) (zero-at 129 s) ∙ zero-bit b;
   steering-small = λ r. rw (zero-at 129 r) (omega arith);
-  held-is = λ s l. ap (λ (x : ℕ). eqb x 1) (zero-at 129 s);
+  flag-is = λ s l. zero-at 129 s;
   start-is = λ s l other. rw (zero-at 129 s) refl;
   bits-are = λ s. zero-at 129 s;
   known-are = λ s. zero-at 129 s;
@@ -170,7 +169,7 @@ module _ {u : Uncounted} {d : Draft} {n : ℕ} (b : Begun u d n) where
   its-out : hasOut d ≡ true
   its-out = represented-out w ∙ b .fed
 
-  start-is : configOf ns (u .bits) (u .known) (y .count) ≡ startOf (d .nodes) (d .holds)
+  start-is : configOf ns (u .bits) (u .known) (y .count) ≡ startOf (d .nodes) (d .resets) (d .holds)
   start-is = start-config w its-out (b .filled)
 
   module _ (r : Walked) (way : List ℕ) (found : FindsPath ns (u .bits) (u .known) (y .out) r way) where

@@ -1,7 +1,7 @@
 -- The words of the filled start are those of its configuration.
 -- Assumes nothing.
 use mathlib.Core.Path.{_≡_, refl, sym, ap, _∙_}
-use mathlib.Core.Bool.{Bool, true, false, cond, _||_}
+use mathlib.Core.Bool.{Bool, true, false, cond}
 use mathlib.Core.List.{List, [], _∷_, List·Memᴰ·head, List·Memᴰ·tail}
 use Prim.Native.Nat.{ℕ, zero, suc, _-_, _^_, _≤_, _<_}
 use native.Mathlib.Omega.{arith}
@@ -12,22 +12,21 @@ use lib.Pow.{pow-pos}
 use lib.Dec.{eqb}
 use borrow.Author.Tests.{eqb-true, eqb-false}
 use Rattle.model.specs.Text.{Trit}
-use Rattle.model.specs.Network.{Node, at, noNode, lenOf, isSteering, Held, heldOr, startBit}
-use Rattle.model.specs.NetworkText.{Draft, hasOut, isSome, isHeld}
+use Rattle.model.specs.Network.{Node, at, noNode, lenOf, isSteering, Held, heldOr, startBit, silentBits}
+use Rattle.model.specs.NetworkText.{Draft, hasOut, isSome}
 use Rattle.model.specs.Drafted.{HoldsFit, Stage, no-out, behind-out}
 use Rattle.model.proofs.Lists.{true-false, length-tabulate}
 use Rattle.network_words.specs.Words.{wordOfBits, tritsOf, bitsWord, knownWord}
 use Rattle.network_path.specs.Layout.{nodeAt, configOf}
 use Rattle.network_path.proofs.ConfigLaws.{config-row}
 use Rattle.network_draft.specs.declared.store.Summary.{Summary}
-use Rattle.network_draft.specs.Represents.{Arrays, Represents}
+use Rattle.network_draft.specs.Represents.{givenOr, Arrays, Represents}
 use Rattle.network_draft.proofs.Representing.{represented-count}
-use Rattle.network_draft.proofs.AddingHolds.{not-held}
 use Rattle.network_draft.proofs.SteeringWords.{not-steering, is-steering}
 use Rattle.network_reader.specs.Start.{freeMarks, StartFilled}
 use Rattle.network_reader.proofs.Starting.{start-row}
 
--- ---- start bits without a `hold` line
+-- ---- start bits without RESET and `hold`
 
 free-bits : (len : ℕ) (b : Bool) → bitsWord (replicate len (startBit b)) ≡ 0
 unfolding wordOfBits
@@ -42,28 +41,19 @@ free-known zero false = refl
 free-known (suc len) true = omega (arith, free-known len true, pow-suc 2 len, pow-pos len)
 free-known (suc len) false = omega (arith, free-known len false)
 
--- ---- the bits of a `hold` line
-
-held-same : (o p : List Trit) (hs : List Held) (s : ℕ) → isHeld hs s ≡ true → heldOr o hs s ≡ heldOr p hs s
-unfolding isHeld heldOr
-held-same o p [] s e = absurd (true-false (sym e))
-held-same o p (h ∷ hs) s e = go (eqb (h .segmentNumber) s) e (λ q. held-same o p hs s q)
-  where
-    go : (b : Bool) → (b || isHeld hs s) ≡ true → (isHeld hs s ≡ true → heldOr o hs s ≡ heldOr p hs s) → cond b (h .bits) (heldOr o hs s) ≡ cond b (h .bits) (heldOr p hs s)
-    go true q r = refl
-    go false q r = r q
+-- ---- the bits that a line gives
 
 empty : {A : Type 0} (l : List A) → length l ≡ 0 → l ≡ []
 empty [] e = refl
 empty (x ∷ l) e = absurd (omega (arith, e))
 
 -- none at a number without bits
-none-held : (ns : List Node) (hs : List Held) (s : ℕ) → HoldsFit ns hs → lenOf (at ns s noNode) ≡ 0 → heldOr [] hs s ≡ []
+none-held : (ns : List Node) (other : List Trit) (hs : List Held) (s : ℕ) → HoldsFit ns hs → lenOf (at ns s noNode) ≡ 0 → other ≡ [] → heldOr other hs s ≡ []
 unfolding heldOr
-none-held ns [] s f e = refl
-none-held ns (h ∷ hs) s f e = go (eqb (h .segmentNumber) s) refl (none-held ns hs s (λ g m. f g (List·Memᴰ·tail m)) e)
+none-held ns other [] s f e o = o
+none-held ns other (h ∷ hs) s f e o = go (eqb (h .segmentNumber) s) refl (none-held ns other hs s (λ g m. f g (List·Memᴰ·tail m)) e o)
   where
-    go : (b : Bool) → eqb (h .segmentNumber) s ≡ b → heldOr [] hs s ≡ [] → cond b (h .bits) (heldOr [] hs s) ≡ []
+    go : (b : Bool) → eqb (h .segmentNumber) s ≡ b → heldOr other hs s ≡ [] → cond b (h .bits) (heldOr other hs s) ≡ []
     go true q r = empty (h .bits) (f h (List·Memᴰ·head refl) ∙ ap (λ (k : ℕ). lenOf (at ns k noNode)) (eqb-true (h .segmentNumber) s q) ∙ e)
     go false q r = r
 
@@ -83,10 +73,20 @@ module _ {a : Arrays} {t : Summary} {d : Draft} {n : ℕ} (w : Represents a t d 
     len = lenOf (nodeAt (a .nodes) s)
 
     abbrev free : List Trit
-    free = replicate len (startBit (isSteering (d .nodes) s))
+    free = silentBits (d .nodes) s len
 
-    row : at config s [] ≡ heldOr free (d .holds) s
+    row : at config s [] ≡ givenOr free d s
     row = config-row (a .nodes) bits known (t .count) s lo hi ∙ start-row w out f s lo hi
+
+    -- by the flag: these bits, or what the words say
+    abbrev byFlag : List Trit → Bool → List Trit
+    byFlag other z = cond z other (tritsOf len (getD (a .bits) s 0) (getD (a .known) s 0))
+
+    as-given : (other : List Trit) → givenOr other d s ≡ byFlag other (eqb (getD (a .held) s 0) 0)
+    as-given other = w .start-is s within other
+
+    given-same : eqb (getD (a .held) s 0) 0 ≡ false → givenOr [] d s ≡ givenOr free d s
+    given-same e = as-given [] ∙ ap (byFlag []) e ∙ sym (as-given free ∙ ap (byFlag free) e)
 
     free-marks : freeMarks (getD (a .steering) s 0) len ≡ cond (isSteering (d .nodes) s) (2 ^ len - 1) 0
     free-marks = go (eqb (getD (a .steering) s 0) 0) refl
@@ -96,18 +96,18 @@ module _ {a : Arrays} {t : Summary} {d : Draft} {n : ℕ} (w : Represents a t d 
         go false e = rw (is-steering w out s within (eqb-false (getD (a .steering) s 0) 0 e))
 
     segment-bits : getD bits s 0 ≡ bitsWord (at config s [])
-    segment-bits = f .words s lo hi ∙ rw (w .held-is s within) (go (isHeld (d .holds) s) refl) ∙ ap bitsWord (sym row)
+    segment-bits = f .words s lo hi ∙ go (eqb (getD (a .held) s 0) 0) refl ∙ ap bitsWord (sym row)
       where
-        go : (b : Bool) → isHeld (d .holds) s ≡ b → cond b (getD (a .bits) s 0) 0 ≡ bitsWord (heldOr free (d .holds) s)
-        go true e = w .bits-are s ∙ ap bitsWord (held-same [] free (d .holds) s e)
-        go false e = sym (ap bitsWord (not-held free (d .holds) s e) ∙ free-bits len (isSteering (d .nodes) s))
+        go : (b : Bool) → eqb (getD (a .held) s 0) 0 ≡ b → cond b 0 (getD (a .bits) s 0) ≡ bitsWord (givenOr free d s)
+        go true e = sym (ap bitsWord (as-given free ∙ ap (byFlag free) e) ∙ free-bits len (isSteering (d .nodes) s))
+        go false e = w .bits-are s ∙ ap bitsWord (given-same e)
 
     segment-known : getD known s 0 ≡ knownWord (at config s [])
-    segment-known = f .marks s lo hi ∙ rw (w .held-is s within) (go (isHeld (d .holds) s) refl) ∙ ap knownWord (sym row)
+    segment-known = f .marks s lo hi ∙ go (eqb (getD (a .held) s 0) 0) refl ∙ ap knownWord (sym row)
       where
-        go : (b : Bool) → isHeld (d .holds) s ≡ b → cond b (getD (a .known) s 0) (freeMarks (getD (a .steering) s 0) len) ≡ knownWord (heldOr free (d .holds) s)
-        go true e = w .known-are s ∙ ap knownWord (held-same [] free (d .holds) s e)
-        go false e = free-marks ∙ sym (ap knownWord (not-held free (d .holds) s e) ∙ free-known len (isSteering (d .nodes) s))
+        go : (b : Bool) → eqb (getD (a .held) s 0) 0 ≡ b → cond b (freeMarks (getD (a .steering) s 0) len) (getD (a .known) s 0) ≡ knownWord (givenOr free d s)
+        go true e = free-marks ∙ sym (ap knownWord (as-given free ∙ ap (byFlag free) e) ∙ free-known len (isSteering (d .nodes) s))
+        go false e = w .known-are s ∙ ap knownWord (given-same e)
 
   -- a number that no node has
   no-bits : (s : ℕ) → (1 ≤ s → s ≤ t .count → ⊥) → lenOf (at (d .nodes) s noNode) ≡ 0
@@ -127,12 +127,14 @@ module _ {a : Arrays} {t : Summary} {d : Draft} {n : ℕ} (w : Represents a t d 
       beyond (yes l) = absurd (away (omega arith) (omega arith))
       beyond (no l) = omega (arith, length-tabulate (λ k. tritsOf (lenOf (nodeAt (a .nodes) k)) (getD bits k 0) (getD known k 0)) 1 (t .count))
 
-  none-there : (s : ℕ) → (1 ≤ s → s ≤ t .count → ⊥) → heldOr [] (d .holds) s ≡ at config s []
+  none-there : (s : ℕ) → (1 ≤ s → s ≤ t .count → ⊥) → givenOr [] d s ≡ at config s []
   none-there s away = go (w .sound .stage) ∙ sym (no-row s away)
     where
-      go : Stage d n → heldOr [] (d .holds) s ≡ []
+      go : Stage d n → givenOr [] d s ≡ []
       go (no-out p m hs ts) = absurd (true-false (sym out ∙ ap isSome p))
-      go (behind-out k p z y hs ts) = none-held (d .nodes) (d .holds) s hs (no-bits s away)
+      go (behind-out k p z y hs ts) =
+          none-held (d .nodes) _ (d .holds) s hs (no-bits s away)
+          (none-held (d .nodes) [] (d .resets) s (λ h i. w .sound .resets-fit h i .as-long) (no-bits s away) refl)
 
   module _ (s : ℕ) where
     pub start-bits : getD bits s 0 ≡ bitsWord (at config s [])

@@ -10,16 +10,16 @@ use Rattle.model.specs.Network.{lenOf}
 use Rattle.network_path.specs.Layout.{nodeAt}
 use Rattle.network_draft.specs.Represents.{Arrays}
 
--- the known marks of a segment of len bits without a `hold` line, by its word of steering bits
+-- the known marks of a segment of len bits without RESET and `hold`, by its word of steering bits
 abbrev pub freeMarks : ℕ → ℕ → ℕ
 freeMarks steering len = cond (eqb steering 0) 0 (2 ^ len - 1)
 
 -- the two words of segment s once it is filled
 abbrev pub startBits : Arrays → ℕ → ℕ
-startBits a s = cond (eqb (getD (a .held) s 0) 1) (getD (a .bits) s 0) 0
+startBits a s = cond (eqb (getD (a .held) s 0) 0) 0 (getD (a .bits) s 0)
 
 abbrev pub startMarks : Arrays → ℕ → ℕ
-startMarks a s = cond (eqb (getD (a .held) s 0) 1) (getD (a .known) s 0) (freeMarks (getD (a .steering) s 0) (lenOf (nodeAt (a .nodes) s)))
+startMarks a s = cond (eqb (getD (a .held) s 0) 0) (freeMarks (getD (a .steering) s 0) (lenOf (nodeAt (a .nodes) s))) (getD (a .known) s 0)
 
 -- one segment is filled, the others are as they were
 pub record OneFilled (a : Arrays) (s : ℕ) (bits known : List ℕ) : Type 0 where

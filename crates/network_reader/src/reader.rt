@@ -91,7 +91,19 @@ fn add_line(
     let entry = p.entry;
     match entry {
         Entry::Wrong => answer(Refusal::Refused(refusal::FORM, n), t),
-        Entry::Node(x) => add_node(nodes, steering, t, n, x),
+        Entry::Node(x) => {
+            add_node(
+                nodes,
+                bits,
+                known,
+                steering,
+                held,
+                t,
+                n,
+                x,
+                &line[start..end],
+            )
+        }
         Entry::Out(k) => add_out(nodes, t, n, k),
         Entry::Hold(s) => {
             let refusal = add_hold(nodes, bits, known, held, t, n, s, &line[start..end]);
@@ -238,7 +250,7 @@ fn finish<'a>(
     walk_start(nodes, bits, known, steering, t)
 }
 
-// A network text: the record, or one refusal, 1 to 9.
+// A network text: the record, or one refusal, 1 to 9 or 18.
 pub fn read_network(text: &[u8]) -> Reading
     ensures { λ r. ⌜ IsReading (now (text .entry)) r ⌝ }
 {

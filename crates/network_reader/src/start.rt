@@ -1,4 +1,4 @@
-// The start bits of segments without a `hold` line: all 0 in steering segments, all unknown in others.
+// The start bits of segments without RESET and `hold`: all 0 in steering segments, all unknown in others.
 use network_path::layout::NODE_NUMBERS;
 use network_path::layout::Nodes;
 use network_path::layout::Words;
@@ -30,7 +30,7 @@ fn start_marks(steering: Word, len: usize) -> Word
     top - 1 + top
 }
 
-// The words of segment s, unless a `hold` line gave them.
+// The words of segment s, unless its RESET or a `hold` line gave them.
 fn fill_one<'a>(
     nodes: &'a Nodes,
     bits: &mut Words,
@@ -42,7 +42,7 @@ fn fill_one<'a>(
     requires { ⌜ (s ≤ maxNodes) × (lenOf (nodeAt (now nodes) s) ≤ wordWidth) × (length (now bits) ≡ nodeNumbers) × (length (now known) ≡ nodeNumbers) ⌝ }
     ensures { λ _. ⌜ OneFilled (arrays (now (nodes .entry)) (now (bits .entry)) (now (known .entry)) (now (steering .entry)) (now (held .entry))) s (now (bits .exit)) (now (known .exit)) ⌝ }
 {
-    if held[s] == 1 {
+    if held[s] != 0 {
         return;
     }
     bits[s] = 0;

@@ -62,6 +62,6 @@ unfoldable pub wordFrom : (ℕ → Bool) → ℕ → Bytes → ℕ
 wordFrom test w [] = w
 wordFrom test w (b ∷ bs) = wordFrom test (bitValue (test b) + 2 * w) bs
 
--- the known mark of a byte of BITS: `X` is unknown
+-- the known mark of a byte of BITS or RESET: `X` is unknown
 abbrev pub byteKnown : ℕ → Bool
 byteKnown b = not (eqb b 88)

@@ -1,4 +1,4 @@
-// Words of a segment's bits: address fields by shift and mask, shifting in by one place, the words of a BITS field.
+// Words of a segment's bits: address fields by shift and mask, shifting in by one place, the words of a BITS or RESET field.
 ghost use mathlib.Core.Path.{_≡_};
 ghost use mathlib.Core.List.{map};
 ghost use Prim.Native.Nat.{suc, _+_, _-_, _*_, _^_, _<_, _≤_};
@@ -85,7 +85,7 @@ pub fn loaded(part: &[u8], len: usize) -> Word
     w
 }
 
-// The known mark that a byte of a BITS field stands for: none for `X`.
+// The known mark that a byte of a BITS or RESET field stands for: none for `X`.
 fn mark_of(b: u8) -> Word
     ensures { λ r. ⌜ r ≡ bitValue (byteKnown b) ⌝ }
 {
@@ -106,7 +106,7 @@ pub struct SegmentWords {
     pub known: Word,
 }
 
-// The two words of a BITS field, which starts with the highest bit.
+// The two words of a BITS or RESET field, which starts with the highest bit.
 pub fn words_of(f: &[u8]) -> SegmentWords
     requires { ⌜ length (now f) ≤ wordWidth ⌝ }
     ensures { λ r. ⌜ (r .bits ≡ wordFrom byteBit 0 (now (f .entry))) × (r .known ≡ wordFrom byteKnown 0 (now (f .entry))) ⌝ }

@@ -5,7 +5,7 @@ use mathlib.Core.List.{List, [], _∷_, _++_, map, List·Memᴰ, List·Memᴰ·h
 use Prim.Native.Nat.{ℕ, _+_}
 use lib.ListN.{length, take, drop, getD}
 use Rattle.model.specs.Text.{Bytes, bytes}
-use Rattle.model.specs.Drawn.{StarredRow, prints, starred}
+use Rattle.model.specs.Drawn.{ProgramRow, prints, starred}
 use Rattle.model.proofs.Demands.{drawn}
 use Rattle.plan_text.specs.Writing.{writeAt}
 use Rattle.program_text.specs.Demand.{WritesShown, StarredWritten}
@@ -22,11 +22,11 @@ pub writes-shown : WritesShown
 writes-shown shown old r new p = rw (p .count, p .holds) (front-written shown old)
 
 -- two functions that agree on a list agree on each of its elements
-on-each : (f g : StarredRow → Bytes) (ks : List StarredRow) → map f ks ≡ map g ks → (k : StarredRow) → List·Memᴰ k ks → f k ≡ g k
+on-each : (f g : ProgramRow → Bytes) (ks : List ProgramRow) → map f ks ≡ map g ks → (k : ProgramRow) → List·Memᴰ k ks → f k ≡ g k
 on-each f g (x ∷ ks) e k (List·Memᴰ·head y) = rw y (ap (λ (l : List Bytes). getD l 0 []) e)
 on-each f g (x ∷ ks) e k (List·Memᴰ·tail m) = on-each f g ks (ap (drop 1) e) k m
 
 pub starred-written : StarredWritten
 starred-written k m old r new p =
     writes-shown _ old r new p
-    ∙ on-each (λ (s : StarredRow). prints (s .program) (bytes (s .network)) (bytes (s .plan))) (λ (s : StarredRow). bytes (s .output)) starred drawn k m
+    ∙ on-each (λ (s : ProgramRow). prints (s .program) (bytes (s .network)) (bytes (s .plan))) (λ (s : ProgramRow). bytes (s .output)) starred drawn k m

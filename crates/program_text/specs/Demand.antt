@@ -6,7 +6,7 @@ use mathlib.Core.List.{List, List·Memᴰ}
 use Prim.Native.Nat.{ℕ}
 use lib.ListN.{take}
 use Rattle.model.specs.Text.{Bytes, bytes}
-use Rattle.model.specs.Drawn.{StarredRow, prints, starred}
+use Rattle.model.specs.Drawn.{ProgramRow, prints, starred}
 use Rattle.program_text.specs.Printing.{PrintedTo}
 
 -- what a program writes is what it is to print
@@ -15,5 +15,5 @@ WritesShown = (shown : Bytes) (old : List ℕ) (r : ℕ) (new : List ℕ) → Pr
 
 -- "starred ones are proved": for each starred row, whatever the buffer held, these bytes are written
 abbrev pub StarredWritten : Type 0
-StarredWritten = (k : StarredRow) → List·Memᴰ k starred → (old : List ℕ) (r : ℕ) (new : List ℕ)
+StarredWritten = (k : ProgramRow) → List·Memᴰ k starred → (old : List ℕ) (r : ℕ) (new : List ℕ)
     → PrintedTo (prints (k .program) (bytes (k .network)) (bytes (k .plan))) old r new → take r new ≡ bytes (k .output)

@@ -14,7 +14,7 @@ abbrev pub allBits : Bool → Bytes → Bool
 allBits false s = isSome (bitsFrom bit [] s)
 allBits true s = isSome (bitsFrom trit [] s)
 
--- a BITS field
+-- a BITS or RESET field
 abbrev pub bitsForm : Bool → Bytes → Bool
 bitsForm false f = isSome (bitsField bit f)
 bitsForm true f = isSome (bitsField trit f)

@@ -207,7 +207,7 @@ pub fn all_bits(s: &[u8], unknown: bool) -> bool
     true
 }
 
-// Whether a BITS field has good form: at least one bit and nothing else.
+// Whether a BITS or RESET field has good form: at least one bit and nothing else.
 pub fn are_bits(f: &[u8], unknown: bool) -> bool
     ensures { λ r. ⌜ r ≡ bitsForm unknown (now (f .entry)) ⌝ }
 {

@@ -66,15 +66,18 @@ fn compare(
     );
 }
 
-/// Most nodes and bits: 125 segments of 32 bits, then multiplexers, each segment held.
-fn most_bits() -> Vec<u8> {
+/// Most nodes and bits: 125 segments of 32 bits, then multiplexers, each segment with start bits in its
+/// RESET or in a `hold` line.
+fn most_bits(reset: bool) -> Vec<u8> {
+    let bits = "0".repeat(32);
     let mut text = String::new();
     for number in 0..125 {
-        text += &format!("seg\t{number}\t32\ts\n");
+        text += &format!("seg\t{number}\t32\ts");
+        text += &if reset { format!("\t{bits}\n") } else { "\n".to_string() };
     }
     text += "mux\t1\t0\t125\t0\nmux\t1\t1\t126\t0\nmux\t1\t2\t127\t0\nout\t128\n";
-    for segment in 1..=125 {
-        text += &format!("hold\t{segment}\t{}\n", "0".repeat(32));
+    for segment in (1..=125).filter(|_| !reset) {
+        text += &format!("hold\t{segment}\t{bits}\n");
     }
     text += &format!("read\t2\nread\t3\nwrite\t4\t{0}\nwrite\t5\t{0}\n", "1".repeat(32));
     text.into_bytes()
@@ -140,7 +143,8 @@ fn sib_chain() -> Vec<u8> {
 
 fn readings() {
     for (name, text) in [
-        ("read, 125 segments of 32 bits, all held", most_bits()),
+        ("read, 125 segments of 32 bits, all held", most_bits(false)),
+        ("read, 125 segments of 32 bits, all with RESET", most_bits(true)),
         ("read, 127 multiplexers of four inputs", most_multiplexers()),
         ("read, the longest text, refused at its last line", most_bytes()),
     ] {

@@ -12,6 +12,7 @@ use penthluk_compare::{clocks, mark, plan, read, read_line};
 use penthluk_reference::clocks::write_clocks;
 use penthluk_reference::generate::cases::{case, Case};
 use penthluk_reference::generate::random::Random;
+use penthluk_reference::generate::reset_cases::reset_case;
 use penthluk_reference::planner::make_plan;
 use penthluk_reference::{marker, programs};
 
@@ -114,10 +115,11 @@ fn main() {
     let random = &mut Random::new(seed);
     let mut kept: Vec<Case> = Vec::new();
     let mut seen = HashSet::new();
-    let mut numbers = [0usize; 18];
+    let mut numbers = [0usize; 19];
     for step in 0..pairs {
         let mut pair = if kept.is_empty() || random.below(8) == 0 {
-            case(seed.wrapping_mul(1_000_003).wrapping_add(step))
+            let draw = if step % 3 == 2 { reset_case } else { case };
+            draw(seed.wrapping_mul(1_000_003).wrapping_add(step))
         } else {
             kept[random.below(kept.len())].clone()
         };

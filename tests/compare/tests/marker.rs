@@ -5,12 +5,16 @@ use penthluk_reference::generate::cases::{case, damaged_with, draw_network, draw
 use penthluk_reference::generate::edges::{
     draw_edge_network, draw_edge_plan, held_chain, plan_line,
 };
-use penthluk_reference::generate::faults::FAULTS;
+use penthluk_reference::generate::faults::{all_faults, FAULTS};
 use penthluk_reference::generate::large::{full, large};
 use penthluk_reference::generate::near::{near, CHANGES};
 use penthluk_reference::generate::plan_damage::{damage_plan, PLAN_FAULTS};
 use penthluk_reference::generate::plans::wander;
 use penthluk_reference::generate::random::Random;
+use penthluk_reference::generate::reset_cases::{
+    draw_edge_reset, draw_reset_network, give_resets, held_reset_chain, reset_case,
+    reset_damaged_with,
+};
 use penthluk_reference::limits::MAX_OPERATIONS;
 use penthluk_reference::marker;
 use penthluk_reference::plan_text::write_plan;
@@ -19,6 +23,8 @@ use penthluk_reference::refusal::Refusal;
 
 /// Pairs from all generators of networks and plans.
 const CASES: u64 = 100_000;
+/// Pairs whose networks have RESET fields.
+const RESET_CASES: u64 = 50_000;
 /// Networks whose passed plan is changed in each way.
 const NETWORKS: u64 = 30_000;
 /// Damaged texts of each kind.
@@ -29,7 +35,7 @@ const LARGE: u64 = 300;
 /// How often each number came; 0 is a pass.
 #[derive(Default, Debug)]
 struct Counts {
-    numbers: [usize; 18],
+    numbers: [usize; 19],
     /// Passes by their count of `got` rows.
     rows: [usize; 5],
 }
@@ -66,8 +72,8 @@ impl Counts {
     }
 }
 
-/// Pairs of all kinds: every refusal of the network and of the plan comes, and passes with any count
-/// of rows.
+/// Pairs of all kinds: every refusal of the network and of the plan comes, and passes with any
+/// count of rows.
 #[test]
 fn generated_pairs() {
     let mut counts = Counts::default();
@@ -77,6 +83,19 @@ fn generated_pairs() {
     }
     counts.at_least(&[0, 1, 2, 3, 4, 5, 6, 7, 8, 9, 14, 15, 16, 17], CASES as usize / 1_000);
     assert!(counts.rows.iter().all(|&count| count as u64 >= CASES / 2_000), "{counts:?}");
+}
+
+/// The same where the networks have RESET fields, and 18 comes too.
+#[test]
+fn generated_pairs_with_resets() {
+    let mut counts = Counts::default();
+    for seed in 0..RESET_CASES {
+        let case = reset_case(seed);
+        counts.compare(&case.network, &case.plan);
+    }
+    let numbers = [0, 1, 2, 3, 4, 5, 6, 7, 8, 9, 14, 15, 16, 17, 18];
+    counts.at_least(&numbers, RESET_CASES as usize / 1_000);
+    assert!(counts.rows.iter().all(|&count| count as u64 >= RESET_CASES / 2_000), "{counts:?}");
 }
 
 /// A passed plan, and that plan with one change: a bit too many or too few, a bit or an address
@@ -116,8 +135,8 @@ fn near_plans() {
     assert!(bit.rows.iter().all(|&count| count >= 100), "{bit:?}");
 }
 
-/// Plan texts of wrong form in each way, for accepted networks; and networks with each fault, beside
-/// a good plan text and beside a bad one.
+/// Plan texts of wrong form in each way, for accepted networks; and networks with each fault,
+/// beside a good plan text and beside a bad one.
 #[test]
 fn damaged_texts() {
     let random = &mut Random::new(1_002);
@@ -146,6 +165,42 @@ fn damaged_texts() {
     counts.at_least(&[1, 2, 3, 4, 5, 6, 7, 8, 9], DAMAGED as usize / 10);
 }
 
+/// Networks with RESET fields, with each fault, and plans one change away from a passed one.
+#[test]
+fn damaged_and_near_with_resets() {
+    let random = &mut Random::new(1_004);
+    let mut counts = Counts::default();
+    for fault in all_faults() {
+        for _ in 0..DAMAGED / 4 {
+            let (damaged, _) = reset_damaged_with(random, &[fault]);
+            match damaged.expected() {
+                Some(refusal) => counts.compare_refused(&damaged.text(), b"csu\t0101\n", &refusal),
+                None => _ = counts.compare(&damaged.text(), b"csu\t0101\n"),
+            }
+        }
+    }
+    counts.at_least(&[1, 2, 3, 4, 5, 6, 7, 8, 9, 18], DAMAGED as usize / 10);
+    let mut counts = Counts::default();
+    for _ in 0..NETWORKS / 3 {
+        let text = draw_reset_network(random).text();
+        let Ok(network) = read_network(&text) else { continue };
+        let plan = draw_plan(random, &network);
+        if counts.compare(&text, &write_plan(&plan))[0] != 0 {
+            continue;
+        }
+        for change in CHANGES {
+            match near(random, &network, &plan, change) {
+                Some((plan, Some(refusal))) => {
+                    counts.compare_refused(&text, &write_plan(&plan), &refusal)
+                }
+                Some((plan, None)) => _ = counts.compare(&text, &write_plan(&plan)),
+                None => {}
+            }
+        }
+    }
+    counts.at_least(&[0, 15, 16, 17], 500);
+}
+
 /// Networks and plans at the limits: 128 nodes, 4,000 bits, sixteen operations, 64,080 bytes.
 #[test]
 fn large_texts() {
@@ -167,15 +222,39 @@ fn large_texts() {
     assert!(counts.rows[2] >= 200, "{counts:?}");
 }
 
-/// The drawn networks of document 01 with every plan of at most two operations of at most five bits.
+/// The same with RESET fields.
+#[test]
+fn large_texts_with_resets() {
+    let random = &mut Random::new(1_005);
+    let mut counts = Counts::default();
+    for _ in 0..LARGE / 3 {
+        let mut drawn = large(random);
+        give_resets(random, &mut drawn);
+        for text in [held_reset_chain(random).text(), drawn.text()] {
+            let Ok(network) = read_network(&text) else { continue };
+            let plan = write_plan(&wander(random, &network, MAX_OPERATIONS, 95));
+            counts.compare(&text, &plan);
+            counts.compare(&text, &draw_edge_plan(random));
+        }
+        counts.compare(&draw_edge_reset(random), &draw_edge_plan(random));
+    }
+    counts.at_least(&[0, 14, 15], 50);
+    counts.at_least(&[3, 6, 18], 5);
+}
+
+/// The drawn networks of document 01, and two with RESET fields, with every plan of at most two
+/// operations of at most five bits.
 #[test]
 fn every_short_plan() {
-    let networks: [&[u8]; 5] = [
+    let networks: [&[u8]; 7] = [
         b"seg\t0\t4\ts\nmux\t3\t0\t0\t1\nseg\t2\t1\ts\nout\t3\nwrite\t1\t1010\n",
         b"seg\t0\t2\ts\nseg\t0\t2\ts\nmux\t4\t0\t1\t2\nseg\t3\t1\ts\nout\t4\nread\t1\nread\t2\n",
         b"seg\t0\t1\ts\nseg\t1\t4\ts\nmux\t1\t0\t0\t2\nout\t3\nread\t2\n",
         b"seg\t0\t2\ts\nmux\t1\t0\t1\t1\t1\nout\t2\n",
         b"out\t0\n",
+        // A, open at the start; B, with the other branch at the start by a `hold` over RESET.
+        b"seg\t0\t4\ts\t1X10\nmux\t3\t0\t0\t1\nseg\t2\t1\ts\t1\nout\t3\nwrite\t1\t1010\n",
+        b"seg\t0\t2\ts\nseg\t0\t2\ts\tXX\nmux\t4\t0\t1\t2\nseg\t3\t1\ts\tX\nout\t4\nread\t1\nread\t2\nhold\t4\t1\n",
     ];
     let lines: Vec<Vec<u8>> = (0..=5).flat_map(lines_of).collect();
     assert_eq!(lines.len(), 63);

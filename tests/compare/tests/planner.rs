@@ -7,10 +7,13 @@ mod plan_counts;
 use penthluk_reference::generate::cases::{damaged_with, draw_network_text};
 use penthluk_reference::generate::draft::Draft;
 use penthluk_reference::generate::edges::held_chain;
-use penthluk_reference::generate::faults::FAULTS;
+use penthluk_reference::generate::faults::{all_faults, FAULTS};
 use penthluk_reference::generate::large::{chain, full, large, steered};
 use penthluk_reference::generate::maze::{gray, maze, GrayWalk};
 use penthluk_reference::generate::random::Random;
+use penthluk_reference::generate::reset_cases::{
+    draw_reset_text, give_resets, held_reset_chain, reset_damaged_with,
+};
 use penthluk_reference::generate::rounds::many_rounds;
 use penthluk_reference::generate::sib::{sib_chain, sib_tree, Size};
 use penthluk_reference::generate::tiny::tiny;
@@ -92,6 +95,66 @@ fn networks_with_unknown_steering_bits() {
     counts.answered(&[(0, 10_000), (9, 1_500), (10, 50), (11, 15_000), (12, 14_000), (13, 1_500)]);
     counts.had_operations(&[2_000, 2_000, 800, 300, 100, 50, 10]);
     assert!(counts.unknown >= 500, "{counts:?}");
+}
+
+/// RESET fields that open branches at the start or leave steering bits unknown, and `hold` lines over
+/// them.
+#[test]
+fn networks_with_resets() {
+    let counts = plan_many(3_009, 8_000, |random| {
+        let mut draft = match random.below(8) {
+            0..=2 => tiny(random, 8),
+            3..=5 => maze(random, 3, 1),
+            _ => {
+                let sibs = random.between(2, 6);
+                sib_tree(random, Size { depth: 4, sibs, len: 3 })
+            }
+        };
+        if random.bit() {
+            make_unknown(random, &mut draft);
+        }
+        give_resets(random, &mut draft);
+        draft
+    });
+    counts.answered(&[(0, 5_000), (9, 2_000), (10, 5), (11, 5_000), (12, 6_000), (13, 800)]);
+    counts.had_operations(&[800, 900, 500, 300, 150, 60]);
+    assert!(counts.unknown >= 150 && counts.tried >= 4_000, "{counts:?}");
+}
+
+/// Texts with RESET fields of all kinds, one of three damaged, and texts with each fault.
+#[test]
+fn generated_texts_with_resets() {
+    let random = &mut Random::new(3_010);
+    let mut counts = Counts::default();
+    for _ in 0..3_000 {
+        let text = draw_reset_text(random);
+        counts.plan(random, &text);
+    }
+    for fault in all_faults() {
+        for _ in 0..20 {
+            let text = reset_damaged_with(random, &[fault]).0.text();
+            counts.plan(random, &text);
+        }
+    }
+    let longest = held_reset_chain(random).text();
+    counts.plan_with(random, &longest, true);
+    counts.answered(&[
+        (0, 1_500),
+        (1, 1_200),
+        (2, 600),
+        (3, 600),
+        (4, 300),
+        (5, 100),
+        (6, 100),
+        (7, 40),
+        (8, 40),
+        (9, 1_000),
+        (10, 100),
+        (11, 800),
+        (12, 1_200),
+        (13, 200),
+        (18, 600),
+    ]);
 }
 
 /// Texts of all kinds, one of four damaged, and texts with each fault: every refusal of a network.

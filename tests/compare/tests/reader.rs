@@ -3,9 +3,15 @@
 use penthluk_compare::{read, read_line};
 use penthluk_reference::generate::cases::draw_network_text;
 use penthluk_reference::generate::random::Random;
+use penthluk_reference::generate::reset_cases::{
+    draw_reset_text, long_reset, long_reset_chain, reset_random,
+};
 use penthluk_reference::programs;
 
 const TEXTS: u64 = 120_000;
+
+/// Texts with RESET fields.
+const RESET_TEXTS: u64 = 60_000;
 
 #[track_caller]
 fn compare(text: &[u8]) -> usize {
@@ -31,6 +37,17 @@ fn generated_texts() {
     assert!(counts.iter().all(|&count| count as u64 >= TEXTS / 1_000), "{counts:?}");
 }
 
+/// The same for texts with RESET fields, and 18 comes too.
+#[test]
+fn generated_texts_with_resets() {
+    let mut counts = [0usize; 19];
+    for seed in 0..RESET_TEXTS {
+        counts[compare(&draw_reset_text(&mut reset_random(seed)))] += 1;
+    }
+    let least = |number: usize| counts[number] as u64 >= RESET_TEXTS / 1_000;
+    assert!((0..=9).chain([18]).all(least), "{counts:?}");
+}
+
 /// Every text of at most two lines from a few words, and every cut of a whole text.
 #[test]
 fn short_texts() {
@@ -53,6 +70,14 @@ fn short_texts() {
         "out\t0\r\n",
         "out \t0\n",
         "seg\t0\t1\ts\t\n",
+        "seg\t0\t1\ts\t1\n",
+        "seg\t0\t1\tp\tX\n",
+        "seg\t0\t1\ts\t01\n",
+        "seg\t0\t2\ts\t1\n",
+        "seg\t0\t33\ts\t0\n",
+        "seg\t0\t1\ts\tx\n",
+        "seg\t0\t1\ts\t0\t0\n",
+        "seg\t0\t1\ts\t0",
     ];
     for a in lines {
         for b in lines {
@@ -65,6 +90,16 @@ fn short_texts() {
     for end in 0..=whole.len() {
         compare(&whole[..end]);
     }
+    let whole = b"seg\t0\t3\ts\t1X0\nseg\t0\t2\tp\tXX\nmux\t4\t0\t1\t2\nseg\t3\t1\ts\t1\nout\t4\nhold\t4\t0\nread\t1\n";
+    for end in 0..=whole.len() {
+        compare(&whole[..end]);
+        for byte in *b"01X2x\t\n" {
+            let mut changed = whole[..end].to_vec();
+            changed.push(byte);
+            changed.extend_from_slice(&whole[end..]);
+            compare(&changed);
+        }
+    }
 }
 
 /// Texts about as long as a text may be.
@@ -74,8 +109,11 @@ fn long_texts() {
         for byte in [b'0', b'\n', b'\t', 0, 255] {
             compare(&vec![byte; length]);
         }
-        let line = b"seg\t0\t1\ts\n";
-        let text: Vec<u8> = line.iter().copied().cycle().take(length).collect();
-        compare(&text);
+        for line in [&b"seg\t0\t1\ts\n"[..], b"seg\t0\t1\ts\tX\n", b"seg\t0\t2\tp\t1"] {
+            let text: Vec<u8> = line.iter().copied().cycle().take(length).collect();
+            compare(&text);
+        }
+        compare(&long_reset(length));
+        compare(&long_reset_chain(&mut Random::new(4_001), length));
     }
 }

@@ -1,20 +1,21 @@
 //! Prints one antt module that says what the test frame's definitions in the crate `model` must
-//! give for generated lists of clocks: `frame_rows SEED COUNT`. The script tests/definitions has the
-//! module checked.
+//! give for generated lists of clocks: `frame_rows SEED COUNT FORM`, with FORM `old` or `reset`
+//! (texts with RESET fields). The script tests/definitions has the module checked.
 
 use penthluk_reference::controller::State;
 use penthluk_reference::frame::Frame;
-use penthluk_reference::generate::clock_lists::{clock_list, ClockList};
+use penthluk_reference::generate::clock_lists::{clock_list, reset_clock_list, ClockList};
 use penthluk_reference::network::{Bit, Network, Node};
 
 fn main() {
     let arguments: Vec<String> = std::env::args().skip(1).collect();
-    let [seed, count] = arguments.as_slice() else {
-        eprintln!("usage: frame_rows SEED COUNT");
+    let [seed, count, form] = arguments.as_slice() else {
+        eprintln!("usage: frame_rows SEED COUNT old|reset");
         std::process::exit(2);
     };
     let (seed, count): (u64, u64) = (seed.parse().expect("SEED"), count.parse().expect("COUNT"));
-    let rows: Vec<String> = (seed..seed + count).map(|seed| row(&clock_list(seed))).collect();
+    let draw = if form == "reset" { reset_clock_list } else { clock_list };
+    let rows: Vec<String> = (seed..seed + count).map(|seed| row(&draw(seed))).collect();
     print!("{}{}\n    ∷ []\n{}", HEAD, rows.join("\n    ∷ "), TAIL);
 }
 

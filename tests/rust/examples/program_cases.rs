@@ -1,8 +1,8 @@
 //! Writes texts and what the Rust version prints for them into a folder: `program_cases FOLDER SEED
-//! COUNT`, COUNT generated pairs from SEED on, one for each fault and change, and those at the
-//! limits. A pair is NAME.net and NAME.plan; `read` must print NAME.read and `plan` NAME.planned for
-//! the first, `clock` NAME.clk for the second and `mark` NAME.mark for both. The script
-//! tests/programs runs the built programs on them.
+//! COUNT`, COUNT generated pairs from SEED on, half as many with RESET fields, one for each fault
+//! and change, and those at the limits. A pair is NAME.net and NAME.plan; `read` must print
+//! NAME.read and `plan` NAME.planned for the first, `clock` NAME.clk for the second and `mark`
+//! NAME.mark for both. The script tests/programs runs the built programs on them.
 
 use std::collections::BTreeSet;
 use std::path::Path;
@@ -10,13 +10,17 @@ use std::path::Path;
 use penthluk_reference::generate::cases::{case, damaged_with, draw_network};
 use penthluk_reference::generate::draft::{Draft, Entry};
 use penthluk_reference::generate::edges::{held_chain, long_network, plan_line};
-use penthluk_reference::generate::faults::{Fault, FAULTS};
+use penthluk_reference::generate::faults::{Fault, FAULTS, RESET_FAULTS};
 use penthluk_reference::generate::large::{chain, full, steered};
 use penthluk_reference::generate::maze::gray;
 use penthluk_reference::generate::near::{near, Change, CHANGES};
 use penthluk_reference::generate::plan_damage::{damage_plan, PLAN_FAULTS};
 use penthluk_reference::generate::plans::planned;
 use penthluk_reference::generate::random::Random;
+use penthluk_reference::generate::reset_cases::{
+    held_reset_chain, long_reset, long_reset_chain, reset_case, reset_chain, reset_damaged_with,
+    reset_random,
+};
 use penthluk_reference::generate::rounds::many_rounds;
 use penthluk_reference::limits::{
     MAX_NETWORK_BITS, MAX_NETWORK_BYTES, MAX_NODES, MAX_OPERATIONS, MAX_PLAN_BYTES, MAX_TARGETS,
@@ -90,6 +94,10 @@ fn main() {
     pairs.extend((0..=MAX_TARGETS).map(|reads| all_on_path(random, reads)));
     pairs.extend(network_limits(random));
     pairs.extend(plan_limits(random));
+    pairs.extend((seed..seed + count / 2).map(generated_reset));
+    let random = &mut reset_random(seed);
+    pairs.extend(RESET_FAULTS.map(|fault| faulty_reset(random, fault)));
+    pairs.extend(reset_limits(random));
     assert_covered(&pairs);
     pairs.iter().for_each(|pair| pair.write(Path::new(folder)));
 }
@@ -99,11 +107,26 @@ fn generated(seed: u64) -> Pair {
     Pair::new(format!("seed-{seed}"), case.network, case.plan)
 }
 
+fn generated_reset(seed: u64) -> Pair {
+    let case = reset_case(seed);
+    Pair::new(format!("seed-reset-{seed}"), case.network, case.plan)
+}
+
 /// A network with one fault.
 fn faulty(random: &mut Random, fault: Fault) -> Pair {
     let (damaged, put) = damaged_with(random, &[fault]);
     assert_eq!(put, 1);
     Pair::new(format!("fault-{fault:?}"), damaged.text(), plan_line(3))
+}
+
+/// A network with RESET fields and one fault at one of them.
+fn faulty_reset(random: &mut Random, fault: Fault) -> Pair {
+    loop {
+        let (damaged, put) = reset_damaged_with(random, &[fault]);
+        if put == 1 {
+            return Pair::new(format!("fault-{fault:?}"), damaged.text(), plan_line(3));
+        }
+    }
 }
 
 /// For each fault of a plan a plan with it.
@@ -135,8 +158,8 @@ fn operations(random: &mut Random, count: usize, bits: usize) -> Vec<u8> {
     write_plan(&(0..count).map(line).collect::<Vec<_>>())
 }
 
-/// 128 segments and 4,000 bits in a row, so many segments to read and four operations for each. Four
-/// give the longest plan text.
+/// 128 segments and 4,000 bits in a row, so many segments to read and four operations for each.
+/// Four give the longest plan text.
 fn all_on_path(random: &mut Random, reads: usize) -> Pair {
     let mut draft = chain(MAX_NODES, MAX_NETWORK_BITS);
     let segments = [128, 1, 100, 50];
@@ -168,6 +191,29 @@ fn network_limits(random: &mut Random) -> Vec<Pair> {
         Pair::planned("steering-6", steered(6)),
         Pair::planned("steering-7", steered(7)),
         Pair::planned("full", full()),
+    ]
+}
+
+/// Network texts with RESET fields at the limits of length and count, and beyond them.
+fn reset_limits(random: &mut Random) -> Vec<Pair> {
+    let one = || plan_line(1);
+    let held = held_reset_chain(random);
+    vec![
+        Pair::planned("reset-held", held),
+        Pair::new("reset-held-longest", long_reset_chain(random, MAX_NETWORK_BYTES), one()),
+        Pair::new("reset-held-too-long", long_reset_chain(random, MAX_NETWORK_BYTES + 1), one()),
+        Pair::new("reset-longest", long_reset(MAX_NETWORK_BYTES), one()),
+        Pair::new("reset-too-long", long_reset(MAX_NETWORK_BYTES + 1), one()),
+        Pair::new(
+            "reset-node-129",
+            reset_chain(random, MAX_NODES + 1, MAX_NODES + 1).text(),
+            one(),
+        ),
+        Pair::new(
+            "reset-bit-4001",
+            reset_chain(random, MAX_NODES, MAX_NETWORK_BITS + 1).text(),
+            one(),
+        ),
     ]
 }
 
@@ -207,9 +253,12 @@ fn numbers<'p>(printed: impl Iterator<Item = &'p Vec<u8>>) -> BTreeSet<u32> {
 /// Every refusal that a program can print is there, passes with 0 to 4 `got` lines, and the longest
 /// texts.
 fn assert_covered(pairs: &[Pair]) {
-    let network_numbers = || 0..=9;
+    let network_numbers = || (0..=9).chain([18]);
     assert_eq!(numbers(pairs.iter().map(|pair| &pair.read)), network_numbers().collect());
-    assert_eq!(numbers(pairs.iter().map(|pair| &pair.planned)), (0..=11).collect());
+    assert_eq!(
+        numbers(pairs.iter().map(|pair| &pair.planned)),
+        network_numbers().chain([10, 11]).collect()
+    );
     let mark_numbers = network_numbers().chain(14..=17).collect();
     assert_eq!(numbers(pairs.iter().map(|pair| &pair.mark)), mark_numbers);
     assert_eq!(numbers(pairs.iter().map(|pair| &pair.clocks)), BTreeSet::from([0, 14]));
@@ -222,8 +271,13 @@ fn assert_covered(pairs: &[Pair]) {
     };
     assert!(network(0, "fail\t4\t1\n"));
     assert!(network(MAX_NETWORK_BYTES, "fail\t6\t262\n"));
+    assert!(network(MAX_NETWORK_BYTES, "fail\t18\t1\n"));
     assert!(network(MAX_NETWORK_BYTES + 1, "fail\t3\t0\n"));
-    assert!(has(&|pair| pair.network.len() > 6_500 && pair.read.starts_with(b"ok\t128\t4000\t")));
+    let accepted = |name: &str, bytes: usize| {
+        let long = |pair: &Pair| pair.name == name && pair.network.len() > bytes;
+        has(&|pair| long(pair) && pair.read.starts_with(b"ok\t128\t4000\t"))
+    };
+    assert!(accepted("held", 6_500) && accepted("reset-held", 10_500));
     let plan = |bytes: usize, gots: usize, printed: &str| {
         has(&|pair| {
             let passes = pair.gots() == Some(gots) && pair.mark.starts_with(printed.as_bytes());

@@ -1,11 +1,12 @@
-//! Document 01, "A marker and planner for scan network plans", in plain Rust.
+//! Document 01, "A marker and planner for scan network plans", in plain Rust, with Change 1 of document
+//! 02, "Subsequent customer requests".
 //!
 //! The four programs are `programs::{read, plan, mark, clock}`. The library calls under them are
 //! `reader::read_network`, `planner::make_plan`, `marker::mark` and `clocks::write_clocks`.
 //! `frame` and `play` are the test frame, `brute` tries every bit string on small networks, and
 //! `generate` makes networks and plans from a seed.
 //!
-//! A comment in quotation marks is a sentence of document 01.
+//! A comment in quotation marks is a sentence of these documents.
 
 #![forbid(unsafe_code)]
 

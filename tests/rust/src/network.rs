@@ -11,8 +11,9 @@ pub type Configuration = Vec<Vec<Bit>>;
 #[derive(Clone, Debug, PartialEq, Eq)]
 pub enum Node {
     /// "`seg FROM LEN KIND`: a segment of 1 to 32 bits. KIND is `s` (with shadow register) or `p`
-    /// (plain)."
-    Segment { from: usize, len: usize, shadow: bool },
+    /// (plain)." "A `seg` line gets a last field RESET, LEN characters of `0`, `1` or `X`, highest
+    /// bit first"; here it stands bit 0 first, and there is none in "the old form".
+    Segment { from: usize, len: usize, shadow: bool, reset: Option<Vec<Bit>> },
     /// "`mux SEG BIT A B [C [D]]`: 2 to 4 inputs, numbered from 0."
     Multiplexer { seg: usize, bit: usize, inputs: Vec<usize> },
 }
@@ -39,7 +40,7 @@ impl Target {
     }
 }
 
-/// A network that none of the refusals 1 to 9 applies to.
+/// A network that none of the refusals 1 to 9 and 18 applies to.
 #[derive(Clone, Debug, PartialEq, Eq)]
 pub struct Network {
     /// Node n stands at index n - 1.

@@ -22,7 +22,10 @@ pub enum NetworkLine {
 /// "in plans only", so here it is a wrong word.
 pub fn parse_line(line: &[u8]) -> Option<NetworkLine> {
     match fields(line).as_slice() {
-        [b"seg", from, len, kind] => parse_segment(from, len, kind),
+        [b"seg", from, len, kind] => parse_segment(from, len, kind, None),
+        [b"seg", from, len, kind, reset] => {
+            parse_segment(from, len, kind, Some(parse_bits(reset, start_bit)?))
+        }
         [b"mux", seg, bit, inputs @ ..] => parse_multiplexer(seg, bit, inputs),
         [b"out", node] => Some(NetworkLine::Out { node: decimal(node)? }),
         [b"hold", segment, bits] => Some(NetworkLine::Hold {
@@ -41,13 +44,19 @@ pub fn parse_line(line: &[u8]) -> Option<NetworkLine> {
 }
 
 /// "`seg FROM LEN KIND`" with KIND "`s` (with shadow register) or `p` (plain)".
-fn parse_segment(from: &[u8], len: &[u8], kind: &[u8]) -> Option<NetworkLine> {
+fn parse_segment(
+    from: &[u8],
+    len: &[u8],
+    kind: &[u8],
+    reset: Option<Vec<Bit>>,
+) -> Option<NetworkLine> {
     let shadow = match kind {
         b"s" => true,
         b"p" => false,
         _ => return None,
     };
-    Some(NetworkLine::Node(Node::Segment { from: decimal(from)?, len: decimal(len)?, shadow }))
+    let (from, len) = (decimal(from)?, decimal(len)?);
+    Some(NetworkLine::Node(Node::Segment { from, len, shadow, reset }))
 }
 
 /// "`mux SEG BIT A B [C [D]]`: 2 to 4 inputs".
@@ -59,7 +68,8 @@ fn parse_multiplexer(seg: &[u8], bit: &[u8], inputs: &[&[u8]]) -> Option<Network
     Some(NetworkLine::Node(Node::Multiplexer { seg: decimal(seg)?, bit: decimal(bit)?, inputs }))
 }
 
-/// "BITS starts with the highest bit", so the order is turned; "No field is empty".
+/// "BITS starts with the highest bit", and so does RESET, so the order is turned; "No field is
+/// empty".
 fn parse_bits<T>(field: &[u8], bit: impl Fn(u8) -> Option<T>) -> Option<Vec<T>> {
     if field.is_empty() {
         return None;

@@ -1,4 +1,4 @@
-//! The reader: a network text becomes a network, or one of the refusals 1 to 9.
+//! The reader: a network text becomes a network, or one of the refusals 1 to 9 and 18.
 
 use crate::limits::{
     MAX_NETWORK_BITS, MAX_NETWORK_BYTES, MAX_NODES, MAX_SEGMENT_BITS, MAX_TARGETS,
@@ -7,13 +7,13 @@ use crate::network::{segment_len, Bit, Configuration, Network, Node, Target};
 use crate::network_line::{parse_line, NetworkLine};
 use crate::path::walk;
 use crate::refusal::{
-    Refusal, ADDRESS, BOUNDS, ENTRY, FORM, ORDER, SIZE, START, STEERING_TARGET, TARGET_COUNT,
+    Refusal, ADDRESS, BOUNDS, ENTRY, FORM, ORDER, RESET, SIZE, START, STEERING_TARGET, TARGET_COUNT,
 };
 use crate::steering::{address_width, is_steering_segment};
 use crate::text::{lines, Line};
 
 /// "Order: text length; then line by line 1, 4, 2, 3, 6, 7, 8; 5 follows 2 on the `out` line; a
-/// missing `out` at the end; then 9."
+/// missing `out` at the end; then 9." 18 comes "directly after 2".
 pub fn read_network(text: &[u8]) -> Result<Network, Refusal> {
     if text.len() > MAX_NETWORK_BYTES {
         return Err(Refusal::new(SIZE, 0));
@@ -49,7 +49,7 @@ impl Reading {
         }
     }
 
-    /// "Node lines come first": 4 after `out`; then 2; then "node 129, or over 4,000 bits".
+    /// "Node lines come first": 4 after `out`; then 2; then 18; then "node 129, or over 4,000 bits".
     fn take_node(&mut self, node: Node, line: usize) -> Result<(), Refusal> {
         if self.out.is_some() {
             return Err(Refusal::new(ORDER, line));
@@ -57,7 +57,11 @@ impl Reading {
         if !in_bounds(&node, self.nodes.len() + 1) {
             return Err(Refusal::new(BOUNDS, line));
         }
-        if let Node::Segment { len, .. } = node {
+        if let Node::Segment { len, reset, .. } = &node {
+            // "a RESET whose length is not LEN"
+            if reset.as_ref().is_some_and(|bits| bits.len() != *len) {
+                return Err(Refusal::new(RESET, line));
+            }
             self.network_bits += len;
         }
         if self.nodes.len() == MAX_NODES || self.network_bits > MAX_NETWORK_BITS {
@@ -159,7 +163,7 @@ fn same_entry(earlier: &Target, target: &Target) -> bool {
 }
 
 /// "Steering segments start as all 0 and others as all X (001, section 7.1) unless a `hold` says
-/// otherwise."
+/// otherwise"; "a segment without a `hold` line starts from" its RESET.
 fn start_configuration(nodes: &[Node], holds: Vec<(usize, Vec<Bit>)>) -> Configuration {
     let unknown = |node: &Node| match node {
         Node::Segment { len, .. } => vec![None; *len],
@@ -169,6 +173,11 @@ fn start_configuration(nodes: &[Node], holds: Vec<(usize, Vec<Bit>)>) -> Configu
     for node in nodes {
         if let Node::Multiplexer { seg, .. } = node {
             start[seg - 1].fill(Some(false));
+        }
+    }
+    for (bits, node) in start.iter_mut().zip(nodes) {
+        if let Node::Segment { reset: Some(reset), .. } = node {
+            bits.clone_from(reset);
         }
     }
     for (segment, bits) in holds {

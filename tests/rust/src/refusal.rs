@@ -1,4 +1,5 @@
-//! The table "Numbers and places": what a call returns when it refuses.
+//! The table "Numbers and places" of document 01, and the numbers that document 02 adds: what a call
+//! returns when it refuses.
 
 /// A refusal: its number and its place.
 #[derive(Clone, Copy, Debug, PartialEq, Eq, Hash)]
@@ -48,3 +49,5 @@ pub const BIT_COUNT: u32 = 15;
 pub const CONFIGURATION: u32 = 16;
 /// "17, target: not accessed, or not holding its bits; lowest target"
 pub const TARGET: u32 = 17;
+/// "It refuses with 18, at the line and directly after 2, a RESET whose length is not LEN."
+pub const RESET: u32 = 18;

@@ -6,6 +6,7 @@ use common::{accepted, refused, text};
 use penthluk_reference::clocks::write_clocks;
 use penthluk_reference::generate::cases::{case, draw_network, draw_plan};
 use penthluk_reference::generate::random::Random;
+use penthluk_reference::generate::reset_cases::reset_case;
 use penthluk_reference::generate::{large::steered, maze::gray};
 use penthluk_reference::limits::{MAX_PLAN_BYTES, SEARCH_ENTRIES};
 use penthluk_reference::plan_text::write_plan;
@@ -140,5 +141,6 @@ fn plan_buffers() {
     }
     for seed in 0..100 {
         check_plan_buffers(&case(seed).network);
+        check_plan_buffers(&reset_case(seed).network);
     }
 }

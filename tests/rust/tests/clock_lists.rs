@@ -2,13 +2,17 @@
 
 use penthluk_reference::clocks::Clock;
 use penthluk_reference::controller::{State, STATES};
-use penthluk_reference::generate::clock_lists::{clock_list, ClockList};
+use penthluk_reference::generate::clock_lists::{clock_list, reset_clock_list, ClockList};
+use penthluk_reference::generate::reset_forms::reset_forms;
 use penthluk_reference::network::Network;
 use penthluk_reference::path::{path_length, walk};
 use std::collections::BTreeMap;
+use std::ops::Range;
 
 /// The seeds of the lists that the script tests/definitions has computed: twelve modules of 20.
-const SEEDS: std::ops::Range<u64> = 20..20 * 13;
+const SEEDS: Range<u64> = 20..20 * 13;
+/// The same for the lists with RESET fields: twelve modules of 5.
+const RESET_SEEDS: Range<u64> = 1_005..1_065;
 
 /// How often at least each thing is met.
 const LEAST: usize = 5;
@@ -97,6 +101,21 @@ fn met_by_updates(network: &Network, steps: &[Step]) -> Vec<String> {
         }
     }
     met
+}
+
+/// How many of the texts have a form.
+fn count(seeds: Range<u64>, draw: fn(u64) -> ClockList, form: &str) -> usize {
+    seeds.filter(|&seed| reset_forms(&draw(seed).text).contains(&form)).count()
+}
+
+/// Both forms of the texts come, and RESET with a `hold` over it.
+#[test]
+fn texts_with_and_without_resets() {
+    assert_eq!(count(SEEDS, clock_list, "no RESET"), 240);
+    for (form, least) in [("RESET", 40), ("hold over RESET", 25)] {
+        let count = count(RESET_SEEDS, reset_clock_list, form);
+        assert!(count >= least, "{form}: {count} times");
+    }
 }
 
 #[test]

@@ -2,6 +2,7 @@
 
 use penthluk_reference::clocks::write_clocks;
 use penthluk_reference::generate::cases::{case, Case};
+use penthluk_reference::generate::reset_cases::reset_case;
 use penthluk_reference::limits::{MAX_PLAN_BYTES, SEARCH_ENTRIES};
 use penthluk_reference::marker::mark;
 use penthluk_reference::planner::make_plan;
@@ -12,7 +13,7 @@ use penthluk_reference::refusal::Refusal;
 const CASES: u64 = 12_000;
 
 /// How often each number came; index 0 is success.
-type Counts = [usize; 18];
+type Counts = [usize; 19];
 
 fn note<T>(counts: &mut Counts, result: Result<T, Refusal>) {
     counts[result.err().map_or(0, |refusal| refusal.number as usize)] += 1;
@@ -30,31 +31,44 @@ fn run(case: &Case, counts: &mut [Counts; 4]) {
     note(&mut counts[3], write_clocks(&case.plan, &mut tms, &mut tdi));
 }
 
-#[test]
-fn every_refusal_comes() {
-    let mut counts = [[0; 18]; 4];
+/// Every number of a network comes, those in `more` too, and every number of the programs.
+fn check_counts(draw: fn(u64) -> Case, more: &[usize]) {
+    let mut counts = [[0; 19]; 4];
     for seed in 0..CASES {
-        run(&case(seed), &mut counts);
+        run(&draw(seed), &mut counts);
     }
     let [reader, planner, marker, clock_writer] = counts;
     let least = CASES as usize / 1_000;
     let enough = |counts: &Counts, numbers: &[usize]| {
         assert!(numbers.iter().all(|&number| counts[number] >= least), "{counts:?}");
-        let others = (0..18).filter(|number| !numbers.contains(number));
+        let others = (0..19).filter(|number| !numbers.contains(number));
         assert!(others.into_iter().all(|number| counts[number] == 0), "{counts:?}");
     };
-    enough(&reader, &[0, 1, 2, 3, 4, 5, 6, 7, 8, 9]);
-    enough(&planner, &[0, 1, 2, 3, 4, 5, 6, 7, 8, 9, 10, 11, 12, 13]);
-    enough(&marker, &[0, 1, 2, 3, 4, 5, 6, 7, 8, 9, 14, 15, 16, 17]);
+    let network = [&[0, 1, 2, 3, 4, 5, 6, 7, 8, 9], more].concat();
+    enough(&reader, &network);
+    enough(&planner, &[&network[..], &[10, 11, 12, 13]].concat());
+    enough(&marker, &[&network[..], &[14, 15, 16, 17]].concat());
     enough(&clock_writer, &[0, 13, 14]);
+}
+
+#[test]
+fn every_refusal_comes() {
+    check_counts(case, &[]);
+}
+
+#[test]
+fn every_refusal_comes_with_resets() {
+    check_counts(reset_case, &[18]);
 }
 
 /// A seed always gives the same case.
 #[test]
 fn cases_repeat() {
     for seed in 0..200 {
-        let (first, second) = (case(seed), case(seed));
-        assert_eq!((first.network, first.plan), (second.network, second.plan));
+        for draw in [case, reset_case] {
+            let (first, second) = (draw(seed), draw(seed));
+            assert_eq!((first.network, first.plan), (second.network, second.plan));
+        }
     }
 }
 
@@ -67,8 +81,7 @@ fn fail_line(refusal: Refusal) -> Vec<u8> {
 fn programs_agree_with_calls() {
     let mut search = vec![0; SEARCH_ENTRIES];
     let mut plan = vec![0; MAX_PLAN_BYTES];
-    for seed in 0..2_000 {
-        let case = case(seed);
+    for case in (0..2_000).flat_map(|seed| [case(seed), reset_case(seed)]) {
         let read = programs::read(&case.network);
         match read_network(&case.network) {
             Ok(network) => {

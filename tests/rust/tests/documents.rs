@@ -52,7 +52,7 @@ fn sorted(mut numbers: Vec<u32>) -> Vec<u32> {
 #[test]
 fn every_number_in_every_list() {
     let constants = numbers(&equations(&read("tests/rust/src/refusal.rs"), "pub const ", ";"));
-    assert!(constants.len() >= 17 && constants.windows(2).all(|pair| pair[0] < pair[1]));
+    assert!(constants.len() >= 18 && constants.windows(2).all(|pair| pair[0] < pair[1]));
     let code = equations(&read("crates/model/src/refusal.rt"), "pub const ", ";");
     assert_eq!(numbers(&code), constants, "refusal.rt");
     let defined = equations(&read("crates/model/specs/Refusals.antt"), "", "");
@@ -84,7 +84,9 @@ fn every_number_in_every_list() {
 fn quoted() -> Vec<String> {
     let mut words = Vec::new();
     let mut documents = vec![top().join("README.md"), top().join("CONTRIBUTING.md")];
-    documents.extend(entries(&top().join("docs")).into_iter().filter(|path| path.is_file()));
+    for folder in ["docs", "docs/changes"] {
+        documents.extend(entries(&top().join(folder)).into_iter().filter(|path| path.is_file()));
+    }
     for path in documents {
         let text = fs::read_to_string(&path).expect("a document");
         words.extend(text.split('`').skip(1).step_by(2).map(str::to_string));

@@ -7,11 +7,13 @@ use common::{accepted, plan_text};
 use penthluk_reference::brute::{first_filled_plan, least_operations};
 use penthluk_reference::generate::maze::{gray, maze, GrayWalk};
 use penthluk_reference::generate::random::Random;
+use penthluk_reference::generate::reset_cases::give_resets;
 use penthluk_reference::generate::sib::{sib_chain, sib_tree, Size};
 use penthluk_reference::generate::tiny::tiny;
 use penthluk_reference::generate::unknown::make_unknown;
 use penthluk_reference::limits::{MAX_OPERATIONS, MAX_STEERING_BITS};
 use penthluk_reference::network::Network;
+use penthluk_reference::path::walk;
 use penthluk_reference::plan_text::write_plan;
 use penthluk_reference::reader::read_network;
 use penthluk_reference::refusal::{Refusal, NO_PLAN};
@@ -47,6 +49,8 @@ struct Tally {
     none: usize,
     /// How many with a plan of some operations started with an unknown steering bit.
     unknown_steering: usize,
+    /// How many with a plan start from another path than with every steering bit 0.
+    other_path: usize,
 }
 
 fn compare_many(seed: u64, networks: usize, draw: impl Fn(&mut Random) -> Vec<u8>) -> Tally {
@@ -64,12 +68,22 @@ fn compare_many(seed: u64, networks: usize, draw: impl Fn(&mut Random) -> Vec<u8
         match compare(&text, &network) {
             Some(operations) => {
                 tally.least[operations] += 1;
+                tally.other_path += usize::from(has_other_path(&network));
                 tally.unknown_steering += usize::from(unknown && operations > 0);
             }
             None => tally.none += 1,
         }
     }
     tally
+}
+
+/// Whether the start's path is another one with every steering bit 0.
+fn has_other_path(network: &Network) -> bool {
+    let mut zeros = network.start.clone();
+    for (segment, bit) in steering_bits(&network.nodes) {
+        zeros[segment - 1][bit] = Some(false);
+    }
+    walk(network, &zeros) != walk(network, &network.start)
 }
 
 #[test]
@@ -112,6 +126,30 @@ fn networks_with_unknown_steering_bits() {
     });
     assert!(tally.unknown_steering > 1_000, "{tally:?}");
     assert!(tally.least[..5].iter().all(|&count| count > 20), "{tally:?}");
+}
+
+/// RESET fields that open branches at the start or leave steering bits unknown, and `hold` lines over
+/// them.
+#[test]
+fn networks_with_resets() {
+    let tally = compare_many(305, 30_000, |random| {
+        let mut draft = match random.below(4) {
+            0 | 1 => tiny(random, 8),
+            2 => maze(random, 3, 1),
+            _ => {
+                let sibs = random.between(1, 4);
+                sib_tree(random, Size { depth: 4, sibs, len: 2 })
+            }
+        };
+        if random.bit() {
+            make_unknown(random, &mut draft);
+        }
+        give_resets(random, &mut draft);
+        draft.text()
+    });
+    assert!(tally.unknown_steering > 700 && tally.other_path > 2_000, "{tally:?}");
+    assert!(tally.least[..6].iter().all(|&count| count > 20), "{tally:?}");
+    assert!(tally.none > 2_000, "{tally:?}");
 }
 
 /// Every least number from 1 to 16, and 17, which is refused.

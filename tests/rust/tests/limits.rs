@@ -9,6 +9,9 @@ use penthluk_reference::generate::edges::{held_chain, long_network, plan_line};
 use penthluk_reference::generate::large::{chain, full, steered};
 use penthluk_reference::generate::maze::gray;
 use penthluk_reference::generate::random::Random;
+use penthluk_reference::generate::reset_cases::{
+    held_reset_chain, long_reset, long_reset_chain, reset_chain,
+};
 use penthluk_reference::limits::{MAX_NETWORK_BYTES, MAX_NODES, MAX_PLAN_BYTES};
 use penthluk_reference::marker::mark;
 use penthluk_reference::plan_text::{parse_plan, write_plan};
@@ -50,6 +53,38 @@ fn segment_length() {
         let result = read_network(&text(&[&line, "out 1"]));
         assert_eq!(result.is_ok(), accepted);
         assert!(accepted || result == refused(2, 1));
+    }
+}
+
+/// A RESET has LEN characters, whatever LEN is.
+#[test]
+fn reset_length() {
+    for len in 1..=32 {
+        for length in [1, len - 1, len, len + 1, 32, 33, 64, 9_999] {
+            let line = format!("seg 0 {len} p {}", "X".repeat(length));
+            let result = read_network(&text(&[&line, "out 1"]));
+            match length {
+                0 => assert_eq!(result, refused(1, 1)),
+                _ if length == len => assert!(result.is_ok(), "{line}"),
+                _ => assert_eq!(result, refused(18, 1), "{line}"),
+            }
+        }
+    }
+}
+
+/// Node 129 and a segment that goes over 4,000 bits are 3 with a good RESET and 18 with another.
+#[test]
+fn reset_at_the_limits() {
+    let random = &mut Random::new(703);
+    assert!(read_network(&reset_chain(random, 128, 4_000).text()).is_ok());
+    assert_eq!(read_network(&reset_chain(random, 129, 129).text()), refused(3, 129));
+    assert_eq!(read_network(&reset_chain(random, 128, 4_001).text()), refused(3, 128));
+    for (segments, bits) in [(128, 128), (125, 4_000)] {
+        for (reset, number) in [("X", 3), ("10", 18), ("", 1)] {
+            let mut lines = reset_chain(random, segments, bits).lines();
+            lines.insert(segments, format!("seg\t0\t1\tp\t{reset}"));
+            assert_eq!(read_network(&join(&lines)), refused(number, segments + 1));
+        }
     }
 }
 
@@ -102,6 +137,25 @@ fn network_bytes() {
     assert_eq!(read_network(&vec![b'\n'; MAX_NETWORK_BYTES + 1]), refused(3, 0));
     let held = held_chain(&mut Random::new(702)).text();
     assert!(held.len() > 6_500 && read_network(&held).is_ok());
+}
+
+/// The same with a RESET, and with one for each segment of the longest text that is accepted.
+#[test]
+fn network_bytes_with_resets() {
+    let random = &mut Random::new(704);
+    for (length, one_line, chain) in [
+        (MAX_NETWORK_BYTES - 1, (18, 1), (6, 262)),
+        (MAX_NETWORK_BYTES, (18, 1), (6, 262)),
+        (MAX_NETWORK_BYTES + 1, (3, 0), (3, 0)),
+    ] {
+        let texts = [(long_reset(length), one_line), (long_reset_chain(random, length), chain)];
+        for (text, (number, place)) in texts {
+            assert_eq!(text.len(), length);
+            assert_eq!(read_network(&text), refused(number, place));
+        }
+    }
+    let held = held_reset_chain(random).text();
+    assert!(held.len() > 10_500 && read_network(&held).is_ok(), "{}", held.len());
 }
 
 #[test]

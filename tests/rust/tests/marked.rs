@@ -7,6 +7,7 @@ use penthluk_reference::clocks::write_clocks;
 use penthluk_reference::controller::State;
 use penthluk_reference::generate::cases::{draw_network, draw_plan};
 use penthluk_reference::generate::random::Random;
+use penthluk_reference::generate::reset_cases::draw_reset_network;
 use penthluk_reference::generate::tiny::tiny;
 use penthluk_reference::limits::MAX_PLAN_BYTES;
 use penthluk_reference::marker::mark;
@@ -88,6 +89,17 @@ fn tiny_networks() {
 #[test]
 fn networks_of_all_kinds() {
     let verdicts = check_marks(202, 4_000, |random| draw_network(random).text());
+    assert!(verdicts.passes > 1_000, "{verdicts:?}");
+    assert!(verdicts.passes_with_targets > 500, "{verdicts:?}");
+    assert!(verdicts.passes_with_operations > 800, "{verdicts:?}");
+    assert!(verdicts.bit_count > 100, "{verdicts:?}");
+    assert!(verdicts.configuration > 50, "{verdicts:?}");
+    assert!(verdicts.target > 200, "{verdicts:?}");
+}
+
+#[test]
+fn networks_with_resets() {
+    let verdicts = check_marks(203, 4_000, |random| draw_reset_network(random).text());
     assert!(verdicts.passes > 1_000, "{verdicts:?}");
     assert!(verdicts.passes_with_targets > 500, "{verdicts:?}");
     assert!(verdicts.passes_with_operations > 800, "{verdicts:?}");

@@ -1,13 +1,15 @@
 //! "Order: text length; then line by line 1, 4, 2, 3, 6, 7, 8; 5 follows 2 on the `out` line; a
-//! missing `out` at the end; then 9."
+//! missing `out` at the end; then 9." 18 comes "directly after 2".
 
 mod common;
 
 use common::{refused, text};
 use penthluk_reference::generate::cases::damaged_with;
-use penthluk_reference::generate::faults::{Fault, FAULTS};
+use penthluk_reference::generate::damage::Damaged;
+use penthluk_reference::generate::faults::{all_faults, Fault, FAULTS, RESET_FAULTS};
 use penthluk_reference::generate::plan_damage::{damage_plan, PLAN_FAULTS};
 use penthluk_reference::generate::random::Random;
+use penthluk_reference::generate::reset_cases::reset_damaged_with;
 use penthluk_reference::limits::{MAX_PLAN_BYTES, SEARCH_ENTRIES};
 use penthluk_reference::marker::mark;
 use penthluk_reference::planner::make_plan;
@@ -16,7 +18,17 @@ use penthluk_reference::refusal::Refusal;
 
 /// Puts these faults into a network and compares the reader with the order rule.
 fn check(random: &mut Random, faults: &[Fault]) -> (Option<Refusal>, usize) {
-    let (damaged, put) = damaged_with(random, faults);
+    let damaged = damaged_with(random, faults);
+    compare(damaged, faults)
+}
+
+/// As `check`, where the network has RESET fields.
+fn check_with_resets(random: &mut Random, faults: &[Fault]) -> (Option<Refusal>, usize) {
+    let damaged = reset_damaged_with(random, faults);
+    compare(damaged, faults)
+}
+
+fn compare((damaged, put): (Damaged, usize), faults: &[Fault]) -> (Option<Refusal>, usize) {
     let text = damaged.text();
     let refusal = read_network(&text).err();
     assert_eq!(refusal, damaged.expected(), "{faults:?}: {}", String::from_utf8_lossy(&text));
@@ -28,6 +40,7 @@ fn no_fault() {
     let random = &mut Random::new(400);
     for _ in 0..200 {
         assert_eq!(check(random, &[]), (None, 0));
+        assert_eq!(check_with_resets(random, &[]), (None, 0));
     }
 }
 
@@ -41,6 +54,22 @@ fn one_fault() {
                 assert_eq!(refusal.map(|refusal| refusal.number), Some(fault.number()));
             }
         }
+    }
+}
+
+#[test]
+fn one_fault_with_resets() {
+    let random = &mut Random::new(404);
+    for fault in all_faults() {
+        let mut decided = 0;
+        for _ in 0..100 {
+            let (refusal, put) = check_with_resets(random, &[fault]);
+            if put == 1 {
+                assert_eq!(refusal.map(|refusal| refusal.number), Some(fault.number()));
+                decided += 1;
+            }
+        }
+        assert!(decided >= 50, "{fault:?}: {decided}");
     }
 }
 
@@ -72,6 +101,34 @@ fn two_faults() {
     }
     for (high, low) in [(2, 1), (3, 1), (3, 2), (4, 1), (4, 2), (4, 3), (5, 1), (5, 4), (6, 1)] {
         assert!(decided[high][low] > 0, "{high} before {low}: {decided:?}");
+    }
+}
+
+/// Every pair of faults with different numbers, one of them at a RESET field.
+#[test]
+fn two_faults_with_resets() {
+    let random = &mut Random::new(405);
+    let mut decided = [[0; 19]; 19];
+    for first in RESET_FAULTS {
+        for second in all_faults() {
+            let [one, other] = [first, second].map(|fault| fault.number() as usize);
+            if one == other {
+                continue;
+            }
+            for _ in 0..20 {
+                if let (Some(refusal), 2) = check_with_resets(random, &[first, second]) {
+                    decided[one][other] += usize::from(refusal.number as usize == one);
+                    decided[other][one] += usize::from(refusal.number as usize == other);
+                }
+            }
+        }
+    }
+    // The lines before `out` have 1, 2, 3, 4 and 18 in any order; the others come behind them.
+    for low in 1..=4 {
+        assert!(decided[low][18] > 20 && decided[18][low] > 20, "{low}: {decided:?}");
+    }
+    for high in 5..=9 {
+        assert!(decided[18][high] > 20 && decided[high][18] == 0, "{high}: {decided:?}");
     }
 }
 
@@ -114,6 +171,46 @@ fn one_line() {
     let fifth = ["seg 0 1 s", "seg 1 1 s", "seg 2 1 s", "seg 3 1 s", "mux 4 0 3 3", "out 5"];
     let targets = ["hold 4 X", "read 1", "read 2", "read 3", "write 1 0", "write 2 0"];
     before(&[&fifth[..], &targets].concat(), 8, 12);
+}
+
+/// 18 and another refusal on one line or in one text: 1, 4, 2, 18, 3, 5, 6, 7, 8, 9.
+#[test]
+fn resets_in_order() {
+    let before = |lines: &[&str], number, place| {
+        assert_eq!(read_network(&text(lines)), refused(number, place), "{lines:?}");
+    };
+    // 1, 4 and 2 before 18 on one line
+    before(&["seg 0 2 q 0"], 1, 1);
+    before(&["seg 0 02 s 0"], 1, 1);
+    before(&["seg 0 2 s 0x0"], 1, 1);
+    before(&["seg 0 2 s 0 0"], 1, 1);
+    before(&["out 0", "seg 0 2 s 0"], 4, 2);
+    before(&["seg 0 1 s", "out 1", "seg 9 33 s 0"], 4, 3);
+    for line in ["seg 1 2 s 0", "seg 9999 2 s 0", "seg 0 0 s 0", "seg 0 33 s 0"] {
+        before(&[line, "out 1"], 2, 1);
+    }
+    // LEN is out of bounds, though RESET is as long
+    before(&[&format!("seg 0 33 s {}", "0".repeat(33)), "out 1"], 2, 1);
+    // the first line decides
+    before(&["seg 0 2 s 0", "?"], 18, 1);
+    before(&["?", "seg 0 2 s 0"], 1, 1);
+    before(&["seg 0 2 s 0", "hold 1 0"], 18, 1);
+    before(&["hold 1 0", "seg 0 2 s 0"], 4, 1);
+    before(&["seg 0 2 s 0", "seg 9 1 s"], 18, 1);
+    before(&["seg 9 1 s", "seg 0 2 s 0"], 2, 1);
+    before(&["seg 0 2 s 0", "seg 0 2 s 000"], 18, 1);
+    // a missing `out`, 2 of `out`, and 5, which is tested there
+    before(&["seg 0 2 s 0"], 18, 1);
+    before(&["seg 0 2 s 0", "out 9"], 18, 1);
+    before(&["mux 0 0 0 0", "seg 0 2 s 0", "out 1"], 18, 2);
+    // 6, 7 and 8
+    before(&["seg 0 2 s 0", "out 1", "hold 1 0"], 18, 1);
+    before(&["seg 0 2 s 0", "mux 1 0 0 1", "out 2", "read 1"], 18, 1);
+    let reads = ["read 2", "read 3", "read 4", "read 5", "read 6"];
+    let nodes = ["seg 0 2 s 000", "seg 1 1 s", "seg 2 1 s", "seg 3 1 s", "seg 4 1 s", "seg 5 1 s"];
+    before(&[&nodes[..], &["out 6"], &reads].concat(), 18, 1);
+    // 9
+    before(&["seg 0 1 s X", "mux 1 0 0 1", "seg 2 2 s 0", "out 3"], 18, 3);
 }
 
 /// "Marker: the network's refusals, then all 14, text length first, then 15 and 16 by operation,

@@ -7,6 +7,9 @@ use penthluk_reference::generate::cases::draw_network;
 use penthluk_reference::generate::large::{full, large};
 use penthluk_reference::generate::maze::gray;
 use penthluk_reference::generate::random::Random;
+use penthluk_reference::generate::reset_cases::{
+    draw_reset_network, give_resets, held_reset_chain,
+};
 use penthluk_reference::generate::rounds::many_rounds;
 use penthluk_reference::limits::{MAX_NODES, MAX_OPERATIONS, MAX_STEERING_BITS, MAX_TARGETS};
 use penthluk_reference::marker::{mark, Pass};
@@ -52,6 +55,21 @@ fn generated_networks() {
 }
 
 #[test]
+fn networks_with_resets() {
+    let random = &mut Random::new(105);
+    let mut plans_of_length = [0; MAX_OPERATIONS + 1];
+    for _ in 0..6_000 {
+        let (text, _) = accepted(random, |random| draw_reset_network(random).text());
+        if let Some(pass) = check_planned(&text, random) {
+            plans_of_length[pass.operations] += 1;
+        }
+    }
+    assert!(plans_of_length[..9].iter().all(|&count| count > 0), "{plans_of_length:?}");
+    assert!(plans_of_length[1] > 500 && plans_of_length[2] > 500, "{plans_of_length:?}");
+    assert!(check_planned(&held_reset_chain(random).text(), random).is_some());
+}
+
+#[test]
 fn large_networks() {
     let random = &mut Random::new(102);
     let mut passes = 0;
@@ -60,6 +78,16 @@ fn large_networks() {
         passes += usize::from(check_planned(&text, random).is_some());
     }
     assert!(passes > 20, "{passes}");
+    let mut passes = 0;
+    for _ in 0..60 {
+        let (text, _) = accepted(random, |random| {
+            let mut draft = large(random);
+            give_resets(random, &mut draft);
+            draft.text()
+        });
+        passes += usize::from(check_planned(&text, random).is_some());
+    }
+    assert!(passes > 20, "with RESET: {passes}");
     assert!(check_planned(&full().text(), random).is_some());
 }
 

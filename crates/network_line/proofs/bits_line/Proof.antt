@@ -104,11 +104,11 @@ returns-3 c =
 
 returns-4 : tie.Need-returns-4
 returns-4 c =
-    rw (c .if3 .taken) (bits-at _ _ _ _ (placed (c .before .before .before .before)) (known (c .before) true (c .if3 .taken)))
+    rw (c .if3 .taken) (bits-at 2 _ _ _ _ (placed (c .before .before .before .before)) (known (c .before) true (c .if3 .taken)))
 
 returns-5 : tie.Need-returns-5
 returns-5 c =
-    rw (c .if3 .left) (bits-at _ _ _ _ (placed (c .before .before .before .before)) (known (c .before) false (c .if3 .left)))
+    rw (c .if3 .left) (bits-at 2 _ _ _ _ (placed (c .before .before .before .before)) (known (c .before) false (c .if3 .left)))
 
 pub bits-line-spec : {M : Type 1} → statement M
 bits-line-spec =

@@ -29,7 +29,7 @@ pub const ALL_LENGTHS: usize = 16;
 pub struct Counts {
     networks: usize,
     /// Calls by the number that they answered; 0 is a plan.
-    numbers: [usize; 18],
+    numbers: [usize; 19],
     /// Networks with a plan, by its operations.
     pub operations: [usize; MAX_OPERATIONS + 1],
     /// Networks that were tried with every bit string.

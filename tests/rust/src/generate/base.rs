@@ -37,6 +37,21 @@ pub fn base(random: &mut Random, wide: bool) -> Base {
     Base { draft, instruments, two_way, two_way_segment, three_way, three_way_segment }
 }
 
+/// Draws a sound network with RESET fields. The walk still meets both multiplexers.
+pub fn reset_base(random: &mut Random, wide: bool) -> Base {
+    let mut base = base(random, wide);
+    for (segment, lowest) in
+        [(base.two_way_segment, ["0", "1"]), (base.three_way_segment, ["00"; 2])]
+    {
+        let lowest = *random.pick(&lowest);
+        let above = base.draft.len(segment) - lowest.len();
+        let bits = random.letters(&['0', '1', 'X'], above) + lowest;
+        base.draft.set_reset(segment, &bits);
+    }
+    base.draft.draw_resets(random, 50);
+    base
+}
+
 fn draw_len(random: &mut Random, wide: bool, low: usize, high: usize) -> usize {
     if wide {
         MAX_SEGMENT_BITS

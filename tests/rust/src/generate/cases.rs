@@ -1,10 +1,10 @@
 //! Cases of all kinds: a network text, a plan text and the lengths of the lent memory.
 
-use super::base::base;
+use super::base::{base, Base};
 use super::damage::Damaged;
 use super::draft::Draft;
 use super::edges::{draw_edge_network, draw_edge_plan};
-use super::faults::{Fault, FAULTS};
+use super::faults::{all_faults, Fault, FAULTS};
 use super::large::{chain, full, large, steered};
 use super::maze::{gray, maze};
 use super::plan_damage::{damage_plan, PLAN_FAULTS};
@@ -37,6 +37,11 @@ pub struct Case {
 pub fn case(seed: u64) -> Case {
     let random = &mut Random::new(seed);
     let network = draw_network_text(random);
+    case_of(random, network)
+}
+
+/// A case with this network text.
+pub fn case_of(random: &mut Random, network: Vec<u8>) -> Case {
     let plan = draw_plan_text(random, &network);
     let search =
         *random.pick(&[SEARCH_ENTRIES, SEARCH_ENTRIES, SEARCH_ENTRIES + 5, SEARCH_ENTRIES - 1, 0]);
@@ -113,9 +118,14 @@ pub fn draw_damaged(random: &mut Random, count: usize) -> Damaged {
 /// A sound network with these faults, and how many of them could be put in.
 pub fn damaged_with(random: &mut Random, faults: &[Fault]) -> (Damaged, usize) {
     let base = base(random, faults.iter().any(|fault| fault.needs_wide()));
-    let mut damaged = Damaged::new(&base);
-    let chosen = FAULTS.iter().filter(|fault| faults.contains(fault));
-    let put = chosen.filter_map(|fault| fault.put(random, &base, &mut damaged)).count();
+    put_faults(random, &base, faults)
+}
+
+/// The network of a base with these faults, and how many of them could be put in.
+pub fn put_faults(random: &mut Random, base: &Base, faults: &[Fault]) -> (Damaged, usize) {
+    let mut damaged = Damaged::new(base);
+    let chosen = all_faults().into_iter().filter(|fault| faults.contains(fault));
+    let put = chosen.filter_map(|fault| fault.put(random, base, &mut damaged)).count();
     (damaged, put)
 }
 
@@ -158,7 +168,7 @@ pub fn draw_plan(random: &mut Random, network: &Network) -> Vec<Vec<bool>> {
 }
 
 /// A text with one byte changed, added or taken away.
-fn scramble(random: &mut Random, mut text: Vec<u8>) -> Vec<u8> {
+pub fn scramble(random: &mut Random, mut text: Vec<u8>) -> Vec<u8> {
     let byte = *random.pick(b"\n\t\r0123456789Xspx \0");
     let index = random.below(text.len() + 1);
     match random.below(3) {

@@ -1,7 +1,8 @@
 //! Lists of clocks for the test frame that go everywhere, not only where a plan's clocks go.
 
-use super::draft::Entry;
+use super::draft::{written, Draft, Entry};
 use super::random::Random;
+use super::reset_cases::reset_random;
 use super::tiny::tiny;
 use crate::clocks::Clock;
 use crate::controller::{next, State, STATES};
@@ -66,6 +67,14 @@ pub fn clock_list(seed: u64) -> ClockList {
     }
 }
 
+/// The same list; its text says the start with RESET fields and `hold` lines.
+pub fn reset_clock_list(seed: u64) -> ClockList {
+    let mut list = clock_list(seed);
+    list.text = reset_text(seed, &list.network);
+    list.network = read_network(&list.text).expect("the same start");
+    list
+}
+
 /// A list of 10 to 40 clocks, from the start or from anywhere.
 fn draw_list(random: &mut Random, anywhere: bool) -> ClockList {
     let (text, network) = draw_network(random);
@@ -97,6 +106,17 @@ fn draw_network(random: &mut Random) -> (Vec<u8>, Network) {
             return (text, network);
         }
     }
+}
+
+/// The text of a network without targets that says its start with RESET fields and `hold` lines.
+fn reset_text(seed: u64, network: &Network) -> Vec<u8> {
+    let mut draft = Draft { nodes: network.nodes.clone(), out: network.out, entries: Vec::new() };
+    for segment in draft.segments() {
+        let bits = written(&network.start[segment - 1]);
+        draft.entries.push(Entry::Hold { segment, bits });
+    }
+    draft.respell(&mut reset_random(seed), &network.start);
+    draft.text()
 }
 
 /// How often TMS is 1 in a state, so that many clocks capture and shift.

@@ -1,4 +1,4 @@
-//! A network text with faults in it, and the refusal that the order of document 01 gives.
+//! A network text with faults in it, and the refusal that the order of the documents gives.
 
 use super::base::Base;
 use super::draft::join;
@@ -39,6 +39,11 @@ impl DamagedLine {
         let mut fields = self.fields();
         fields[field] = value.as_ref();
         self.text = fields.join("\t");
+    }
+
+    /// Gives a segment's line this RESET.
+    pub fn set_reset(&mut self, reset: &str) {
+        self.text = [&self.fields()[..4], &[reset]].concat().join("\t");
     }
 }
 

@@ -2,7 +2,7 @@
 
 use super::random::Random;
 use crate::limits::MAX_TARGETS;
-use crate::network::{segment_len, Node};
+use crate::network::{segment_len, Bit, Node};
 use crate::steering::is_steering_segment;
 
 /// A line after `out`. Bits stand as they are written, highest bit first.
@@ -24,7 +24,7 @@ pub struct Draft {
 impl Draft {
     /// Adds a segment and gives its number.
     pub fn segment(&mut self, from: usize, len: usize, shadow: bool) -> usize {
-        self.nodes.push(Node::Segment { from, len, shadow });
+        self.nodes.push(Node::Segment { from, len, shadow, reset: None });
         self.nodes.len()
     }
 
@@ -77,14 +77,19 @@ impl Draft {
             if !random.percent(percent) {
                 continue;
             }
-            let letters: &[char] = match is_steering_segment(&self.nodes, segment) {
-                true => &['0', '0', '0', '0', '1', '1', '1', 'X'],
-                false => &['0', '1', 'X'],
-            };
-            let bits = random.letters(letters, self.len(segment));
+            let bits = self.draw_start(random, segment);
             self.entries.push(Entry::Hold { segment, bits });
         }
         random.shuffle(&mut self.entries);
+    }
+
+    /// Start bits of a segment.
+    pub fn draw_start(&self, random: &mut Random, segment: usize) -> String {
+        let letters: &[char] = match is_steering_segment(&self.nodes, segment) {
+            true => &['0', '0', '0', '0', '1', '1', '1', 'X'],
+            false => &['0', '1', 'X'],
+        };
+        random.letters(letters, self.len(segment))
     }
 
     /// The lines, without their ends.
@@ -106,14 +111,21 @@ pub fn join(lines: &[String]) -> Vec<u8> {
 
 pub fn node_line(node: &Node) -> String {
     match node {
-        Node::Segment { from, len, shadow } => {
-            format!("seg\t{from}\t{len}\t{}", if *shadow { 's' } else { 'p' })
+        Node::Segment { from, len, shadow, reset } => {
+            let kind = if *shadow { 's' } else { 'p' };
+            let reset = reset.as_ref().map(|bits| format!("\t{}", written(bits)));
+            format!("seg\t{from}\t{len}\t{kind}{}", reset.unwrap_or_default())
         }
         Node::Multiplexer { seg, bit, inputs } => {
             let inputs: String = inputs.iter().map(|input| format!("\t{input}")).collect();
             format!("mux\t{seg}\t{bit}{inputs}")
         }
     }
+}
+
+/// "BITS starts with the highest bit", and so does RESET.
+pub fn written(bits: &[Bit]) -> String {
+    bits.iter().rev().map(|bit| bit.map_or('X', |bit| if bit { '1' } else { '0' })).collect()
 }
 
 pub fn entry_line(entry: &Entry) -> String {

@@ -1,8 +1,9 @@
-//! The faults that can be put into a sound network, several for each of the refusals 1 to 9.
+//! The faults that can be put into a sound network, several for each of the refusals 1 to 9 and 18.
 
 mod entries;
 mod form;
 mod nodes;
+mod resets;
 
 use super::base::Base;
 use super::damage::Damaged;
@@ -52,11 +53,32 @@ pub enum Fault {
     NoOut,
     Unended,
     TextTooLong,
+    /// 9, by a RESET
+    StartResetUnknown,
+    StartResetBeyond,
+    /// 18
+    ResetShort,
+    ResetLong,
+    ResetNewLine,
+    /// 18 on a line that is also node 129, or that goes over 4,000 bits
+    ResetNode129,
+    ResetBit4001,
+    /// 3 on a line with a good RESET
+    Node129Reset,
+    Bit4001Reset,
+    /// 1, by a RESET
+    ResetLetter,
+    ResetEmpty,
+    SixFields,
+    /// 2 and 4 on a line whose RESET is not LEN long
+    FromBoundReset,
+    LenBoundReset,
+    ResetAfterOut,
 }
 
 use Fault::*;
 
-/// All faults, in the order in which they are put into one text.
+/// The faults that need no RESET field, in the order in which they are put into one text.
 pub const FAULTS: [Fault; 32] = [
     Node129,
     Bit4001,
@@ -92,30 +114,60 @@ pub const FAULTS: [Fault; 32] = [
     TextTooLong,
 ];
 
+/// The faults of a line with a RESET field, in the same order. They are put in behind the first two of
+/// the others.
+pub const RESET_FAULTS: [Fault; 15] = [
+    StartResetUnknown,
+    StartResetBeyond,
+    ResetShort,
+    ResetLong,
+    ResetNode129,
+    ResetBit4001,
+    Node129Reset,
+    Bit4001Reset,
+    ResetNewLine,
+    ResetLetter,
+    ResetEmpty,
+    SixFields,
+    FromBoundReset,
+    LenBoundReset,
+    ResetAfterOut,
+];
+
+/// All faults, in the order in which they are put into one text.
+pub fn all_faults() -> Vec<Fault> {
+    [&FAULTS[..2], &RESET_FAULTS, &FAULTS[2..]].concat()
+}
+
 impl Fault {
     /// The number that refuses a text with this fault alone.
     pub fn number(self) -> u32 {
         match self {
             Word | ExtraField | MissingField | EmptyField | DecimalForm | BitsForm | KindForm => 1,
             BehindLastField | BlankLine | CsuLine | Unended => 1,
-            FromBound | InputBound | LenBound | OutBound => 2,
-            Node129 | Bit4001 | TextTooLong => 3,
-            EntryBeforeOut | NodeAfterOut | SecondOut | NoOut => 4,
+            ResetLetter | ResetEmpty | SixFields => 1,
+            FromBound | InputBound | LenBound | OutBound | FromBoundReset | LenBoundReset => 2,
+            Node129 | Bit4001 | TextTooLong | Node129Reset | Bit4001Reset => 3,
+            EntryBeforeOut | NodeAfterOut | SecondOut | NoOut | ResetAfterOut => 4,
             AddressNoSegment | AddressPlain | AddressBeyond => 5,
             EntryNoSegment | EntryLength | EntryAgain => 6,
             TargetSteers => 7,
             FifthTarget => 8,
-            StartUnknown | StartBeyond => 9,
+            StartUnknown | StartBeyond | StartResetUnknown | StartResetBeyond => 9,
+            ResetShort | ResetLong | ResetNewLine | ResetNode129 | ResetBit4001 => 18,
         }
     }
 
     /// Whether the fault needs a network whose segments all have 32 bits.
     pub fn needs_wide(self) -> bool {
-        self == Bit4001
+        [Bit4001, ResetBit4001, Bit4001Reset].contains(&self)
     }
 
     /// Puts the fault in. `None` if no sound line is left that could have it.
     pub fn put(self, random: &mut Random, base: &Base, damaged: &mut Damaged) -> Option<()> {
+        if RESET_FAULTS.contains(&self) {
+            return resets::put_reset(self, random, base, damaged);
+        }
         match self.number() {
             1 => form::put_form(self, random, damaged),
             2 => nodes::put_bounds(self, random, damaged),

@@ -1,8 +1,7 @@
 //! Unknown steering bits, where the start is valid without them.
 
-use super::draft::{Draft, Entry};
+use super::draft::{written, Draft, Entry};
 use super::random::Random;
-use crate::network::Bit;
 use crate::path::is_valid;
 use crate::reader::read_network;
 use crate::steering::{is_steering_segment, steering_bits};
@@ -27,9 +26,4 @@ pub fn make_unknown(random: &mut Random, draft: &mut Draft) {
         let bits = written(&start[segment - 1]);
         draft.entries.push(Entry::Hold { segment, bits });
     }
-}
-
-/// "BITS starts with the highest bit".
-fn written(bits: &[Bit]) -> String {
-    bits.iter().rev().map(|bit| bit.map_or('X', |bit| if bit { '1' } else { '0' })).collect()
 }

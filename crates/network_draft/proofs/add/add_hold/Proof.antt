@@ -7,7 +7,8 @@ use Rattle.network_path.specs.Layout.{nodeAt}
 use lib.ListN.{length}
 use mathlib.Core.List.{List, []}
 use Prim.Native.Nat.{ℕ, _≤_}
-use Rattle.network_draft.proofs.AddingHolds.{bits-in-length, unfit-none, unfit-length, fit, hold-4, hold-6, held-6, hold-added, with-hold}
+use Rattle.network_draft.proofs.AddingHolds.{unfit-none, unfit-length, fit, hold-4, hold-6, held-6, hold-added, with-hold}
+use Rattle.network_draft.proofs.GivenBits.{bits-in-length, by-hold}
 use Rattle.network_draft.proofs.BadAddresses.{node-in}
 use Rattle.network_draft.proofs.Representing.{agrees-refused, agrees-ok, represented-out, represented-len}
 use Rattle.network_line.specs.Line.{bitsIn}
@@ -95,47 +96,30 @@ returns-4 c =
     let a = at-if1 .before .before .before .args in
     λ steering d form w.
     let out = represented-out w ∙ not-false _ (at-if1 .if1 .left) in
-    let again = sym (w .held-is (a .s) (in-range at-if2)) ∙ eq-eqb _ 1 (c .if4 .taken) in
+    let again = sym (by-hold w (a .s) (in-range at-if2)) ∙ eq-eqb _ 1 (c .if4 .taken) in
     agrees-refused _ _ _ 6 (a .n) (held-6 d (a .n) (a .s) (bitsIn trit (a .f .now)) out (fits at-if3 form w) again) refl
 
-words-of-requires : tie.Need-words-of-requires
-words-of-requires c κs =
-    let at-if3 = c .before .before in
+store-start-requires : tie.Need-store-start-requires
+store-start-requires c κs =
+    let at-if3 = c .before .before .before .before .before in
     let r = there (at-if3 .before) in
-    omega (arith, its-length at-if3, start (at-if3 .before) .pre .1 _ (r .0) (r .1))
-
-mul-bits : tie.Need-mul-bits
-mul-bits c = omega (arith, in-range (c .before .before .before .before))
-
-element-write-bits : tie.Need-element-write-bits
-element-write-bits c = omega (arith, in-range (c .before .before .before .before))
-
-mul-known : tie.Need-mul-known
-mul-known c = omega (arith, in-range (c .before .before .before .before))
-
-element-write-known : tie.Need-element-write-known
-element-write-known c = omega (arith, in-range (c .before .before .before .before))
-
-mul-held : tie.Need-mul-held
-mul-held c = omega (arith, in-range (c .before .before .before .before))
-
-element-write-held : tie.Need-element-write-held
-element-write-held c = omega (arith, in-range (c .before .before .before .before))
+    (in-range (at-if3 .before), omega (arith, its-length at-if3, start (at-if3 .before) .pre .1 _ (r .0) (r .1)), search needs, search needs, search needs)
 
 returns-5 : tie.Need-returns-5
 returns-5 c =
-    let at-if3 = c .before .before .before in
+    let at-if4 = c .before .before .before .before in
+    let at-if3 = at-if4 .before .before in
     let at-if2 = at-if3 .before in
     let at-if1 = at-if2 .before .before in
     let a = at-if1 .before .before .before .args in
     let bs = bitsIn trit (a .f .now) in
+    let stored = c .store-start .ensures in
     λ steering d form w.
     let out = represented-out w ∙ not-false _ (at-if1 .if1 .left) in
-    let fresh = sym (w .held-is (a .s) (in-range at-if2)) ∙ ne-eqb _ 1 (c .before .if4 .left) in
+    let fresh = sym (by-hold w (a .s) (in-range at-if2)) ∙ ne-eqb _ 1 (at-if4 .if4 .left) in
     let is = hold-added d (a .n) (a .s) bs out (fits at-if3 form w) fresh in
     agrees-ok _ _ _ (withHold d (a .s) bs) is refl
-    (rw (c .words-of .ensures .0, c .words-of .ensures .1)
-    (with-hold w (a .s) (a .f .now) form (in-range at-if2) (its-length at-if3) fresh is))
+    (rw (stored .bits-are, stored .known-are, stored .flags-are) (with-hold w (a .s) (a .f .now) form (in-range at-if2) (its-length at-if3) fresh is))
 
 pub add-hold-spec : {M : Type 1} → statement M
 add-hold-spec =
@@ -148,11 +132,5 @@ add-hold-spec =
     mul-if4
     element-copy-out-if4
     returns-4
-    words-of-requires
-    mul-bits
-    element-write-bits
-    mul-known
-    element-write-known
-    mul-held
-    element-write-held
+    store-start-requires
     returns-5)

@@ -10,7 +10,8 @@ use Rattle.network_line.specs.Line.{bitsIn}
 use Rattle.model.specs.Text.{bit}
 use Rattle.network_draft.proofs.BadAddresses.{node-in}
 use Rattle.network_draft.proofs.AddingTargets.{target-4, target-6, target-rest, agrees-same}
-use Rattle.network_draft.proofs.AddingHolds.{unfit-none, unfit-length, fit, bits-in-length, bits-are}
+use Rattle.network_draft.proofs.AddingHolds.{unfit-none, unfit-length, fit}
+use Rattle.network_draft.proofs.GivenBits.{bits-in-length, bits-are}
 use Rattle.network_draft.proofs.Representing.{agrees-refused, represented-out, represented-len}
 use borrow.Author.Tests.{not-true, not-false}
 use native.Mathlib.Omega.{arith}

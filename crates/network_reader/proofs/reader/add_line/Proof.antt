@@ -21,12 +21,21 @@ answer-requires c κs = search needs
 enum-known-entry : tie.Need-enum-known-entry
 enum-known-entry c = search needs
 
+sub-add-node : tie.Need-sub-add-node
+sub-add-node c = search needs
+
+part-add-node-start : tie.Need-part-add-node-start
+part-add-node-start c = search needs
+
+part-add-node-end : tie.Need-part-add-node-end
+part-add-node-end c = search needs
+
 add-node-requires : tie.Need-add-node-requires
 add-node-requires c κs =
-    let at-entry = c .before .before .before in
+    let at-entry = c .before .before .before .before .before .before .before in
     let at-parse = at-entry .before .before in
     let w = at-parse .before .before .pre .1 in
-    (entry-good _ _ (at-parse .parse .ensures) _ (at-entry .entry .given .1), w .in-limits, w .sized .nodes, w .sized .steering-words)
+    (entry-good _ _ (at-parse .parse .ensures) _ (at-entry .entry .given .1) .0, w .in-limits, w .sized)
 
 enum-known-entry-2 : tie.Need-enum-known-entry-2
 enum-known-entry-2 c = search needs
@@ -88,11 +97,12 @@ returns c =
 
 returns-2 : tie.Need-returns-2
 returns-2 c =
-    let at-entry = c .before .before .before .before in
+    let at-entry = c .before .before .before .before .before .before .before .before in
     let at-parse = at-entry .before .before in
     let a = at-parse .before .before .args in
     let is = line-is (a .line .now) (at-parse .parse .result) (at-parse .parse .ensures) _ (at-entry .entry .given .1) in
-    λ d w. agrees-same _ _ _ _ (ap (addLine d (a .n)) is) (c .add-node .ensures (a .bits .now) (a .known .now) (a .held .now) d w)
+    let good = entry-good (a .line .now) (at-parse .parse .result) (at-parse .parse .ensures) _ (at-entry .entry .given .1) in
+    λ d w. agrees-same _ _ _ _ (ap (addLine d (a .n)) is) (c .add-node .ensures d (good .1) w)
 
 returns-3 : tie.Need-returns-3
 returns-3 c =
@@ -138,6 +148,9 @@ add-line-spec =
     enum-told
     answer-requires
     enum-known-entry
+    sub-add-node
+    part-add-node-start
+    part-add-node-end
     add-node-requires
     enum-known-entry-2
     add-out-requires

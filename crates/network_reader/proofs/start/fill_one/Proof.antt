@@ -1,6 +1,6 @@
 -- `network_reader::start::fill_one` meets its contract.
 -- Assumes nothing.
-use Rattle.network_reader.proofs.Starting.{one-held, one-free}
+use Rattle.network_reader.proofs.Starting.{one-given, one-free}
 use borrow.Author.Needs.{needs}
 use Rattle.network_reader.proofs.start.fill_one.Statement.{statement}
 use Rattle.network_reader.proofs.start.fill_one.Tie as tie
@@ -12,7 +12,7 @@ element-copy-out-if1 : tie.Need-element-copy-out-if1
 element-copy-out-if1 c = search needs
 
 returns : tie.Need-returns
-returns c = one-held _ _ (c .if1 .taken)
+returns c = one-given _ _ (c .if1 .taken)
 
 mul-bits : tie.Need-mul-bits
 mul-bits c = search needs

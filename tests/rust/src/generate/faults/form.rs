@@ -48,8 +48,13 @@ fn spoil(fault: Fault, random: &mut Random, line: &mut DamagedLine) {
         }
         Fault::KindForm => line.replace_field(3, random.pick(&["S", "P", "sp", "ss", "0", "q"])),
         Fault::MissingField => {
-            // A multiplexer with one input less may still be good, one with one input is not.
-            let kept = if line.word() == "mux" { 4 } else { fields - 1 };
+            // A multiplexer with one input less may still be good, one with one input is not. A
+            // segment without its RESET is good.
+            let kept = match line.word() {
+                "mux" => 4,
+                "seg" => 3,
+                _ => fields - 1,
+            };
             line.text = line.fields()[..kept].join("\t");
         }
         _ => line.text += *random.pick(&["\r", "\t", " ", "\u{0}"]),

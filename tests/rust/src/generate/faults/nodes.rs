@@ -37,24 +37,33 @@ pub fn put_size(fault: Fault, random: &mut Random, damaged: &mut Damaged) -> Opt
     match fault {
         Fault::TextTooLong => damaged.padding = *random.pick(&[1, 2, 1000]),
         Fault::Node129 => {
-            while damaged.out_index() < MAX_NODES {
-                damaged.insert(damaged.out_index(), "seg\t0\t1\tp", None);
-            }
+            fill_nodes(damaged);
             let node = *random.pick(&["seg\t0\t1\ts", "mux\t1\t0\t0\t0", "mux\t0\t9999\t1\t2\t3"]);
             damaged.insert(damaged.out_index(), node, Some(SIZE));
         }
         _ => {
-            // All segments have 32 bits, and 125 of them have 4,000.
-            let is_segment = |line: &&DamagedLine| line.word() == "seg";
-            let segments = damaged.lines.iter().filter(is_segment).count();
-            let wide = format!("seg\t0\t{MAX_SEGMENT_BITS}\ts");
-            for _ in segments..MAX_NETWORK_BITS / MAX_SEGMENT_BITS {
-                damaged.insert(damaged.out_index(), wide.clone(), None);
-            }
+            fill_bits(damaged);
             damaged.insert(damaged.out_index(), "seg\t1\t1\tp", Some(SIZE));
         }
     }
     Some(())
+}
+
+/// Adds segments of one bit up to 128 nodes.
+pub fn fill_nodes(damaged: &mut Damaged) {
+    while damaged.out_index() < MAX_NODES {
+        damaged.insert(damaged.out_index(), "seg\t0\t1\tp", None);
+    }
+}
+
+/// Adds segments up to 4,000 bits. All segments have 32 bits, and 125 of them have 4,000.
+pub fn fill_bits(damaged: &mut Damaged) {
+    let is_segment = |line: &&DamagedLine| line.word() == "seg";
+    let segments = damaged.lines.iter().filter(is_segment).count();
+    let wide = format!("seg\t0\t{MAX_SEGMENT_BITS}\ts");
+    for _ in segments..MAX_NETWORK_BITS / MAX_SEGMENT_BITS {
+        damaged.insert(damaged.out_index(), wide.clone(), None);
+    }
 }
 
 /// "word out of order; no `out` (last line number + 1)"

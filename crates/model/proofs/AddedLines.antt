@@ -1,0 +1,78 @@
+-- Reading line by line: what the lines of an accepted text do to the draft.
+-- Assumes nothing.
+use mathlib.Core.Path.{_≡_, refl, ap, _∙_, subst}
+use mathlib.Core.Bool.{not}
+use mathlib.Core.Option.{Option, none, some}
+use mathlib.Core.List.{List, [], _∷_, List·Memᴰ, List·Memᴰ·head, List·Memᴰ·tail}
+use Prim.Native.Nat.{ℕ, suc, _+_}
+use lib.ListN.{length}
+use lib.Dec.{leb, ltb}
+use Rattle.model.specs.Network.{totalBits, lenOf, isSteering}
+use Rattle.model.specs.NetworkText.{Line, node, out, hold, target, lineOf, Draft, hasOut, outside, badReset, withNode, addNode, firstBad, withOut, outIf, addOut, fitsBits, isHeld, withHold, addHold, targetSegment, fitsTarget, isTarget, withTarget, addTarget, addLine, atEnd, readLines}
+use Rattle.model.specs.Result.{Result, ok, andThen}
+use Rattle.model.specs.Text.{Bytes, ended}
+use Rattle.model.proofs.Lists.{not-ok, ok-is, handed, passed-test}
+
+-- ---- the ended lines in turn
+
+unfoldable pub addAll : Draft → ℕ → List Bytes → Result (ℕ × Draft)
+addAll d n [] = ok (n, d)
+addAll d n (l ∷ ls) = andThen (addLine d n (lineOf l)) (λ e. addAll e (suc n) ls)
+
+pub ended-read : (ls : List Bytes) (d : Draft) (n : ℕ) (r : ℕ × Draft) → readLines d n ls ≡ ok r → addAll d n (ended ls) ≡ ok r
+unfolding readLines addAll
+ended-read [] d n r e = e
+ended-read (l ∷ []) d n r e = last l e
+  where
+    last : (l : Bytes) → atEnd (n, d) 1 l n ≡ ok r → ok (n, d) ≡ ok r
+    last [] g = g
+    last (b ∷ bs) g = absurd (not-ok g)
+ended-read (l ∷ m ∷ ls) d n r e =
+    let h = handed (addLine d n (lineOf l)) _ r e in
+    ap (λ (x : Result Draft). andThen x (λ y. addAll y (suc n) (ended (m ∷ ls)))) (h .given) ∙ ended-read (m ∷ ls) (h .value) (suc n) r (h .then)
+
+-- ---- what a line that is not refused does
+
+abbrev pub afterLine : Draft → Option Line → Draft
+afterLine d none = d
+afterLine d (some (node x v)) = withNode d x v
+afterLine d (some (out k)) = withOut d k
+afterLine d (some (hold s bs)) = withHold d s bs
+afterLine d (some (target t)) = withTarget d t
+
+pub added : (d e : Draft) (n : ℕ) (o : Option Line) → addLine d n o ≡ ok e → afterLine d o ≡ e
+unfolding addNode addOut addHold addTarget
+added d e n none g = absurd (not-ok g)
+added d e n (some (node x v)) g =
+    let a = passed-test (hasOut d) 4 n _ e g in
+    let b = passed-test (outside n x) 2 n _ e (a .1) in
+    let w = passed-test (badReset x v) 18 n _ e (b .1) in
+    let c = passed-test (leb 128 (length (d .nodes))) 3 n _ e (w .1) in
+    ok-is (passed-test (ltb 4000 (totalBits (d .nodes) + lenOf x)) 3 n _ e (c .1) .1)
+added d e n (some (out k)) g =
+    let a = passed-test (hasOut d) 4 n _ e g in
+    let b = passed-test (ltb (length (d .nodes)) k) 2 n _ e (a .1) in
+    go (firstBad (d .nodes) 1 (d .nodes)) (b .1)
+  where
+    go : (o : Option ℕ) → outIf d k o ≡ ok e → withOut d k ≡ e
+    go none h = ok-is h
+    go (some m) h = absurd (not-ok h)
+added d e n (some (hold s bs)) g =
+    let a = passed-test (not (hasOut d)) 4 n _ e g in
+    let b = passed-test (not (fitsBits (d .nodes) s bs)) 6 n _ e (a .1) in
+    ok-is (passed-test (isHeld (d .holds) s) 6 n _ e (b .1) .1)
+added d e n (some (target t)) g =
+    let a = passed-test (not (hasOut d)) 4 n _ e g in
+    let b = passed-test (not (fitsTarget (d .nodes) t)) 6 n _ e (a .1) in
+    let c = passed-test (isTarget (d .targets) t) 6 n _ e (b .1) in
+    let f = passed-test (isSteering (d .nodes) (targetSegment t)) 7 n _ e (c .1) in
+    ok-is (passed-test (leb 4 (length (d .targets))) 8 n _ e (f .1) .1)
+
+-- what each of the lines keeps, all of them keep
+pub all-keep : (P : Draft → Type 0) (ls : List Bytes) → ((l : Bytes) → List·Memᴰ l ls → (d : Draft) → P d → P (afterLine d (lineOf l)))
+    → (d : Draft) (n : ℕ) (r : ℕ × Draft) → addAll d n ls ≡ ok r → P d → P (r .1)
+unfolding addAll
+all-keep P [] keep d n r e p = subst (λ (x : ℕ × Draft). P (x .1)) (ok-is e) p
+all-keep P (l ∷ ls) keep d n r e p =
+    let h = handed (addLine d n (lineOf l)) _ r e in
+    all-keep P ls (λ k m. keep k (List·Memᴰ·tail m)) (h .value) (suc n) r (h .then) (subst P (added d (h .value) n (lineOf l) (h .given)) (keep l (List·Memᴰ·head refl) d p))

@@ -1,0 +1,186 @@
+-- Document 02, Change 1: a text without RESET is read as before.
+-- Assumes nothing.
+use mathlib.Core.Path.{_≡_, refl, sym, ap, _∙_, subst}
+use mathlib.Core.Bool.{Bool, true, false}
+use mathlib.Core.Option.{Option, none, some}
+use mathlib.Core.List.{List, [], _∷_, List·Memᴰ, List·Memᴰ·head, List·Memᴰ·tail, List·Memᴰ·not-nil}
+use Prim.Native.Nat.{ℕ, suc, _≤_, _<_}
+use native.Mathlib.Omega.{arith}
+use lib.ListN.{length, drop}
+use lib.Dec.{leb, ltb}
+use borrow.Author.Tests.{ltb-true, ltb-false, lt-leb}
+use Rattle.model.specs.Drawn.{A}
+use Rattle.model.specs.Network.{Held, heldOr, startOf}
+use Rattle.model.specs.NetworkText.{Reset, Line, node, out, hold, target, field, resetField, segLine, lineBy, lineOf, Draft, addNode, addLine, readLines, finish, noLines, readNetwork}
+use Rattle.model.specs.Resets.{segLineWithoutReset, lineByWithoutReset, lineWithoutReset, addLineWithoutReset, readLinesWithoutReset, startWithoutReset, finishWithoutReset, readWithoutReset, OldForm, ReadAsBefore, AcceptedAsBefore}
+use Rattle.model.specs.Result.{Result, ok, refused, refuseIf, andThen}
+use Rattle.model.specs.Text.{Bytes, bytes, bind, same, parts, fields, ended, linesOf, lineEnd, LineWord, Seg, Mux, Out, Hold, Write, Read, Csu, wordOf}
+use Rattle.model.proofs.AddedLines.{ended-read, afterLine, all-keep}
+use Rattle.model.proofs.LineForms.{line-form}
+use Rattle.model.proofs.Lists.{eqb-below, and-false-right, true-false, some-same, not-ok, handed, passed-test}
+
+-- ---- one line
+
+six-before : (fs : List Bytes) → 6 ≤ length fs → segLine fs ≡ segLineWithoutReset fs
+unfolding segLine segLineWithoutReset
+six-before fs l = rw (lt-leb (length fs) 5 (omega arith), and-false-right (leb 4 (length fs)), eqb-below (length fs) 4 (omega arith))
+
+seg-before : (fs : List Bytes) → (length fs ≡ 5 → ⊥) → segLine fs ≡ segLineWithoutReset fs
+unfolding segLine segLineWithoutReset
+seg-before [] e = refl
+seg-before (a ∷ []) e = refl
+seg-before (a ∷ b ∷ []) e = refl
+seg-before (a ∷ b ∷ c ∷ []) e = refl
+seg-before (a ∷ b ∷ c ∷ d ∷ []) e = refl
+seg-before (a ∷ b ∷ c ∷ d ∷ f ∷ []) e = absurd (e refl)
+seg-before (a ∷ b ∷ c ∷ d ∷ f ∷ g ∷ fs) e = six-before (a ∷ b ∷ c ∷ d ∷ f ∷ g ∷ fs) (omega arith)
+
+-- another line than a `seg` line of five fields
+abbrev Old : Bytes → Type 0
+Old l = wordOf (field (fields l) 0) ≡ some Seg → length (fields l) ≡ 5 → ⊥
+
+line-before : (l : Bytes) → Old l → lineOf l ≡ lineWithoutReset l
+unfolding lineOf lineWithoutReset
+line-before l f = go (wordOf (field (fields l) 0)) refl
+  where
+    by-word : (w : LineWord) → wordOf (field (fields l) 0) ≡ some w → lineBy (fields l) w ≡ lineByWithoutReset (fields l) w
+    by-word Seg e = seg-before (fields l) (f e)
+    by-word Mux e = refl
+    by-word Out e = refl
+    by-word Hold e = refl
+    by-word Write e = refl
+    by-word Read e = refl
+    by-word Csu e = refl
+
+    go : (o : Option LineWord) → wordOf (field (fields l) 0) ≡ o → bind o (lineBy (fields l)) ≡ bind o (lineByWithoutReset (fields l))
+    go none e = refl
+    go (some w) e = by-word w e
+
+abbrev NoReset : Line → Type 0
+NoReset (node x v) = v ≡ none
+NoReset (out k) = Unit {0}
+NoReset (hold s bs) = Unit {0}
+NoReset (target t) = Unit {0}
+
+none-behind : (fs : List Bytes) → length fs ≡ 4 → drop 4 fs ≡ []
+none-behind [] e = refl
+none-behind (a ∷ []) e = refl
+none-behind (a ∷ b ∷ []) e = refl
+none-behind (a ∷ b ∷ c ∷ []) e = refl
+none-behind (a ∷ b ∷ c ∷ d ∷ []) e = refl
+none-behind (a ∷ b ∷ c ∷ d ∷ f ∷ fs) e = absurd (omega arith)
+
+four-of : (n : ℕ) → 4 ≤ n → n ≤ 5 → (n ≡ 5 → ⊥) → n ≡ 4
+four-of n lo hi f = go (ltb n 5) refl
+  where
+    go : (t : Bool) → ltb n 5 ≡ t → n ≡ 4
+    go true q = let l : n < 5 = ltb-true n 5 q in omega arith
+    go false q = let l : 5 ≤ n = ltb-false n 5 q in absurd (f (omega arith))
+
+no-reset : (l : Bytes) → Old l → (line : Line) → lineOf l ≡ some line → NoReset line
+no-reset l old = line-form NoReset l record {
+  of-seg = λ from len shadow v w lo hi e. sym (some-same none v (ap resetField (sym (none-behind (fields l) (four-of (length (fields l)) lo hi (old w)))) ∙ e));
+  of-mux = λ s b ins lo hi. refl;
+  of-out = λ n. tt;
+  of-hold = λ s bs. tt;
+  of-target = λ t. tt;
+}
+
+add-before : (d : Draft) (n : ℕ) (o : Option Line) → ((line : Line) → o ≡ some line → NoReset line) → addLine d n o ≡ addLineWithoutReset d n o
+unfolding addNode
+add-before d n none f = refl
+add-before d n (some (node x v)) f = ap (addNode d n x) (f (node x v) refl)
+add-before d n (some (out k)) f = refl
+add-before d n (some (hold s bs)) f = refl
+add-before d n (some (target t)) f = refl
+
+-- ---- the lines in turn
+
+lines-before : (ls : List Bytes) → ((l : Bytes) → List·Memᴰ l (ended ls) → Old l) → (d : Draft) (n : ℕ) → readLines d n ls ≡ readLinesWithoutReset d n ls
+unfolding readLines readLinesWithoutReset
+lines-before [] f d n = refl
+lines-before (l ∷ []) f d n = refl
+lines-before (l ∷ m ∷ ls) f d n =
+    let old : Old l = f l (List·Memᴰ·head refl) in
+    ap (λ (r : Result Draft). andThen r (λ y. readLines y (suc n) (m ∷ ls))) (add-before d n (lineOf l) (no-reset l old) ∙ ap (addLineWithoutReset d n) (line-before l old))
+    ∙ (λ i. andThen (addLineWithoutReset d n (lineWithoutReset l)) (λ y. lines-before (m ∷ ls) (λ k x. f k (List·Memᴰ·tail x)) y (suc n) i))
+
+-- no RESET is kept
+none-kept : (l : Bytes) → Old l → (d : Draft) → d .resets ≡ [] → afterLine d (lineOf l) .resets ≡ []
+none-kept l old d e = go (lineOf l) (no-reset l old)
+  where
+    go : (o : Option Line) → ((line : Line) → o ≡ some line → NoReset line) → afterLine d o .resets ≡ []
+    go none f = e
+    go (some (node x v)) f = ap (λ (w : Reset). afterLine d (some (node x w)) .resets) (f (node x v) refl) ∙ e
+    go (some (out k)) f = e
+    go (some (hold s bs)) f = e
+    go (some (target t)) f = e
+
+finish-before : (n : ℕ) (d : Draft) → d .resets ≡ [] → (o : Option ℕ) → finish n d o ≡ finishWithoutReset n d o
+unfolding startOf startWithoutReset heldOr
+finish-before n d e none = refl
+finish-before n d e (some k) = ap (λ (rs : List Held). finish n record { nodes = d .nodes; resets = rs; feeds = d .feeds; holds = d .holds; targets = d .targets } (some k)) e
+
+then-same : {A B : Type 0} (r : Result A) (f g : A → Result B) → ((a : A) → r ≡ ok a → f a ≡ g a) → andThen r f ≡ andThen r g
+then-same (ok a) f g e = e a refl
+then-same (refused number place) f g e = refl
+
+pub read-as-before : ReadAsBefore
+unfolding readNetwork readWithoutReset
+read-as-before t old =
+    ap (refuseIf (ltb 16384 (length t)) 3 0)
+    (then-same (readLines noLines 1 (parts lineEnd t)) _ (λ r. finishWithoutReset (r .0) (r .1) (r .1 .feeds)) (λ r e. finish-before (r .0) (r .1) (no-resets r e) (r .1 .feeds))
+    ∙ ap (λ (x : Result (ℕ × Draft)). andThen x (λ r. finishWithoutReset (r .0) (r .1) (r .1 .feeds))) (lines-before (parts lineEnd t) old noLines 1))
+  where
+    no-resets : (r : ℕ × Draft) → readLines noLines 1 (parts lineEnd t) ≡ ok r → r .1 .resets ≡ []
+    no-resets r e = all-keep (λ (d : Draft). d .resets ≡ []) (linesOf t) (λ l m. none-kept l (old l m)) noLines 1 r (ended-read (parts lineEnd t) noLines 1 r e) refl
+
+-- ---- so an accepted text stays accepted
+
+five-none : (l : Bytes) → wordOf (field (fields l) 0) ≡ some Seg → length (fields l) ≡ 5 → lineWithoutReset l ≡ none
+unfolding lineWithoutReset segLineWithoutReset
+five-none l w h = rw (w, h)
+
+lines-old : (ls : List Bytes) (d : Draft) (n : ℕ) (r : ℕ × Draft) → readLinesWithoutReset d n ls ≡ ok r → (l : Bytes) → List·Memᴰ l (ended ls) → Old l
+unfolding readLinesWithoutReset
+lines-old [] d n r e l m = absurd (List·Memᴰ·not-nil m)
+lines-old (k ∷ []) d n r e l m = absurd (List·Memᴰ·not-nil m)
+lines-old (k ∷ j ∷ ls) d n r e l (List·Memᴰ·head q) = λ w h.
+    let g = handed (addLineWithoutReset d n (lineWithoutReset k)) _ r e .given in
+    not-ok (ap (addLineWithoutReset d n) (sym (ap lineWithoutReset (sym q) ∙ five-none l w h)) ∙ g)
+lines-old (k ∷ j ∷ ls) d n r e l (List·Memᴰ·tail m) =
+    let g = handed (addLineWithoutReset d n (lineWithoutReset k)) _ r e in
+    lines-old (j ∷ ls) (g .value) (suc n) r (g .then) l m
+
+pub accepted-as-before : AcceptedAsBefore
+unfolding readWithoutReset
+accepted-as-before t net e =
+    let a = passed-test (ltb 16384 (length t)) 3 0 _ net e in
+    let g = handed (readLinesWithoutReset noLines 1 (parts lineEnd t)) _ net (a .1) in
+    read-as-before t (λ l m. lines-old (parts lineEnd t) noLines 1 (g .value) (g .given) l m) ∙ e
+
+-- ---- a text that `read-as-before` speaks of: A of document 01
+
+abbrev Each : (Bytes → Type 0) → List Bytes → Type 0
+Each P [] = Unit {0}
+Each P (l ∷ ls) = P l × Each P ls
+
+each-in : (P : Bytes → Type 0) (ls : List Bytes) → Each P ls → (l : Bytes) → List·Memᴰ l ls → P l
+each-in P (k ∷ ls) f l (List·Memᴰ·head e) = subst P (sym e) (f .0)
+each-in P (k ∷ ls) f l (List·Memᴰ·tail m) = each-in P ls (f .1) l m
+
+abbrev isSeg : LineWord → Bool
+isSeg Seg = true
+isSeg Mux = false
+isSeg Out = false
+isSeg Hold = false
+isSeg Write = false
+isSeg Read = false
+isSeg Csu = false
+
+no-seg : (w : LineWord) {n : ℕ} → isSeg w ≡ false → some w ≡ some Seg → n ≡ 5 → ⊥
+no-seg w f e q = absurd (true-false (sym (ap isSeg (some-same w Seg e)) ∙ f))
+
+pub old-form-met : OldForm (bytes A)
+unfolding parts wordOf same
+old-form-met = each-in Old (linesOf (bytes A)) (λ e q. omega arith, (no-seg Mux refl, (λ e q. omega arith, (no-seg Out refl, (no-seg Write refl, tt)))))
