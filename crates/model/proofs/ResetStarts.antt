@@ -1,53 +1,24 @@
 -- Document 02, Change 1: a segment starts from its `hold` line, else from its RESET, else from 0 or X.
 -- Assumes nothing.
 use mathlib.Core.Path.{_≡_, refl, sym, ap, _∙_, subst}
-use mathlib.Core.Bool.{Bool, true, false, cond, not}
+use mathlib.Core.Bool.{true, false, not}
 use mathlib.Core.Option.{Option, none, some}
-use mathlib.Core.List.{List, [], _∷_, _++_, List·Memᴰ, List·Memᴰ·head, List·Memᴰ·tail, List·Memᴰ·not-nil}
+use mathlib.Core.List.{List, [], _∷_, List·Memᴰ, List·Memᴰ·head, List·Memᴰ·tail, List·Memᴰ·not-nil}
 use Prim.Native.Nat.{ℕ, zero, suc, _+_, _≤_, _<_}
 use native.Mathlib.Omega.{arith}
 use lib.ListN.{length, getD, length-append}
 use lib.Seq.{getD-append-seam}
-use lib.Dec.{eqb}
-use borrow.Author.Tests.{ne-eqb, not-false}
+use borrow.Author.Tests.{not-false}
 use Rattle.model.specs.Drafted.{Sound, Stage, no-out, behind-out}
-use Rattle.model.specs.Network.{Node, Network, at, noNode, isSegment, lenOf, Held, heldOr, silentBits, startOf}
+use Rattle.model.specs.Network.{Node, Network, at, noNode, isSegment, lenOf, heldOr, silentBits, startOf}
 use Rattle.model.specs.NetworkText.{Reset, Line, node, out, hold, target, lineOf, Draft, hasOut, withNode, addNode, fitsBits, isHeld, addHold, addLine, noLines}
 use Rattle.model.specs.Resets.{NotHeld, ResetStarts}
 use Rattle.model.specs.Result.{ok}
 use Rattle.model.specs.Text.{Bytes, parts, same, wordOf, linesOf, lineEnd, Trit}
 use Rattle.model.proofs.AddedLines.{addAll, ended-read, afterLine, added, all-keep}
-use Rattle.model.proofs.Lists.{eqb-same, true-false, and-parts, or-parts, none-some, ok-is, handed, passed-test, at-mapFrom}
+use Rattle.model.proofs.HeldBits.{held-append, held-one, held-other, held-free, none-for}
+use Rattle.model.proofs.Lists.{true-false, and-parts, none-some, ok-is, handed, passed-test, at-mapFrom}
 use Rattle.model.proofs.Reading.{at-before, has-none, sound-line, sound-start, Source, source}
-
--- ---- the first entry for a segment decides
-
-held-append : (other : List Trit) (hs gs : List Held) (s : ℕ) → heldOr other (hs ++ gs) s ≡ heldOr (heldOr other gs s) hs s
-unfolding heldOr
-held-append other [] gs s = refl
-held-append other (h ∷ hs) gs s = ap (λ (later : List Trit). cond (eqb (h .segmentNumber) s) (h .bits) later) (held-append other hs gs s)
-
--- an entry for s, and one for another segment
-held-one : (other bs : List Trit) (s : ℕ) → heldOr other (record { segmentNumber = s; bits = bs } ∷ []) s ≡ bs
-unfolding heldOr
-held-one other bs s = rw (eqb-same s)
-
-held-other : (other bs : List Trit) (j s : ℕ) → (j ≡ s → ⊥) → heldOr other (record { segmentNumber = j; bits = bs } ∷ []) s ≡ other
-unfolding heldOr
-held-other other bs j s f = ap (λ (t : Bool). cond t bs other) (ne-eqb j s f)
-
-held-none : (other : List Trit) (hs : List Held) (s : ℕ) → ((h : Held) → List·Memᴰ h hs → h .segmentNumber ≡ s → ⊥) → heldOr other hs s ≡ other
-unfolding heldOr
-held-none other [] s f = refl
-held-none other (h ∷ hs) s f =
-    ap (λ (t : Bool). cond t (h .bits) (heldOr other hs s)) (ne-eqb (h .segmentNumber) s (f h (List·Memᴰ·head refl))) ∙ held-none other hs s (λ x m. f x (List·Memᴰ·tail m))
-
-held-free : (other : List Trit) (hs : List Held) (s : ℕ) → isHeld hs s ≡ false → heldOr other hs s ≡ other
-unfolding heldOr isHeld
-held-free other [] s e = refl
-held-free other (h ∷ hs) s e =
-    let a = or-parts (eqb (h .segmentNumber) s) (isHeld hs s) e in
-    ap (λ (t : Bool). cond t (h .bits) (heldOr other hs s)) (a .0) ∙ held-free other hs s (a .1)
 
 -- ---- `hold` lines
 
@@ -126,7 +97,7 @@ unfolding addNode
 now-reset d e n x v s g = subst (ResetAs n x v) (added d e n (some (node x v)) g) (by-stage (passed-test (hasOut d) 4 n _ e g .0) (s .stage))
   where
     none-yet : (other : List Trit) → heldOr other (d .resets) (suc (length (d .nodes))) ≡ other
-    none-yet other = held-none other (d .resets) (suc (length (d .nodes))) (λ h m q. let a = s .resets-fit h m .among in omega arith)
+    none-yet other = held-free other (d .resets) (suc (length (d .nodes))) (none-for (d .resets) (suc (length (d .nodes))) (λ h m q. let a = s .resets-fit h m .among in omega arith))
 
     of : (v : Reset) → ResetAs (suc (length (d .nodes))) x v (withNode d x v)
     of none = record { among = omega (arith, length-append (d .nodes) (x ∷ [])); is = getD-append-seam (d .nodes) x [] noNode; gives = none-yet }

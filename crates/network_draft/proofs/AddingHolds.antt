@@ -2,7 +2,7 @@
 -- Assumes nothing.
 use mathlib.Core.Path.{_≡_, refl, sym, ap, _∙_}
 use mathlib.Core.Bool.{Bool, true, false, cond, _||_}
-use mathlib.Core.List.{List, []}
+use mathlib.Core.List.{List, [], _∷_}
 use Prim.Native.Nat.{ℕ, zero, suc, _≤_, _<_}
 use native.Mathlib.Omega.{arith}
 use native.Mathlib.Decide.{decLt}
@@ -13,6 +13,7 @@ use Rattle.model.specs.Result.{ok, refused}
 use Rattle.model.specs.Text.{Bytes, Trit, trit, bitsFrom}
 use Rattle.model.specs.Network.{Node, segment, multiplexer, at, noNode, isSegment, lenOf, heldOr}
 use Rattle.model.specs.NetworkText.{Draft, hasOut, isSome, fitsBits, isHeld, addHold, withHold, outside}
+use Rattle.model.proofs.HeldBits.{held-append, held-one, held-other, held-free}
 use Rattle.model.proofs.Lists.{or-parts, or-right, true-false, and-false-right, eqb-same}
 use Rattle.model.proofs.Reading.{sound-hold}
 use Rattle.network_words.specs.Words.{byteBit, wordFrom, byteKnown}
@@ -21,7 +22,7 @@ use Rattle.network_draft.specs.declared.store.Summary.{Summary}
 use Rattle.network_line.specs.Line.{bitsIn}
 use Rattle.network_draft.specs.Store.{byHold, byReset}
 use Rattle.network_draft.specs.Represents.{Arrays, arrays, Represents}
-use Rattle.network_draft.proofs.GivenBits.{held-more, held-other, start-more, not-held, Gives, flags-after, start-after, bits-after, known-after}
+use Rattle.network_draft.proofs.GivenBits.{one, held-more, held-others, Gives, flags-after, start-after, bits-after, known-after}
 
 -- ---- segments of a draft
 
@@ -83,9 +84,11 @@ module _ {a : Arrays} {t : Summary} {d : Draft} {n : ℕ} (w : Represents a t d 
   gives : Gives d (withHold d s (bitsIn trit f)) (a .nodes) (a .nodes) s f byHold
   gives = record {
     flag-here = ap (λ (b : Bool). cond b byHold (cond (isHeld (d .resets) s) byReset 0)) (held-more (d .holds) s (bitsIn trit f) s ∙ or-right (isHeld (d .holds) s) (eqb s s) (eqb-same s));
-    flag-other = λ r ne. ap (λ (b : Bool). cond b byHold (cond (isHeld (d .resets) r) byReset 0)) (held-other (d .holds) s (bitsIn trit f) r ne);
-    bits-here = λ other. start-more (heldOr other (d .resets) s) (d .holds) s (bitsIn trit f) s ∙ rw (eqb-same s) (not-held (bitsIn trit f) (d .holds) s fresh);
-    bits-other = λ other r ne. start-more (heldOr other (d .resets) r) (d .holds) s (bitsIn trit f) r ∙ rw (ne-eqb s r (λ z. ne (sym z)));
+    flag-other = λ r ne. ap (λ (b : Bool). cond b byHold (cond (isHeld (d .resets) r) byReset 0)) (held-others (d .holds) s (bitsIn trit f) r ne);
+    bits-here = λ other. held-append (heldOr other (d .resets) s) (d .holds) (one s (bitsIn trit f) ∷ []) s
+        ∙ ap (λ (ts : List Trit). heldOr ts (d .holds) s) (held-one _ (bitsIn trit f) s) ∙ held-free (bitsIn trit f) (d .holds) s fresh;
+    bits-other = λ other r ne. held-append (heldOr other (d .resets) r) (d .holds) (one s (bitsIn trit f) ∷ []) r
+        ∙ ap (λ (ts : List Trit). heldOr ts (d .holds) r) (held-other _ (bitsIn trit f) s r (λ z. ne (sym z)));
     len-here = λ e. len;
     len-other = λ r ne. refl;
     without = λ e. absurd (true-false (sym e));

@@ -2,7 +2,7 @@
 -- Assumes nothing.
 use mathlib.Core.Path.{_≡_, refl, sym, ap, _∙_, subst}
 use mathlib.Core.Bool.{Bool, true, false, cond, not, _||_}
-use mathlib.Core.List.{List, [], _∷_, _++_, List·Memᴰ, List·Memᴰ·head, List·Memᴰ·tail}
+use mathlib.Core.List.{List, [], _∷_, _++_, List·Memᴰ}
 use Prim.Native.Nat.{ℕ, zero, suc, _+_, _≤_, _<_}
 use native.Mathlib.Omega.{arith}
 use native.Mathlib.Nat.{zero-add}
@@ -14,6 +14,7 @@ use Rattle.model.specs.Text.{Bytes, Trit, trit, bitsFrom}
 use Rattle.model.specs.Network.{Node, at, noNode, lenOf, totalBits, tabulate, steersAt, heldOr, Held}
 use Rattle.model.specs.NetworkText.{Reset, badReset, Draft, hasOut, outside, addNode, withNode, isHeld, isSome}
 use Rattle.model.specs.Drafted.{GoodForm, Sound, Stage, no-out, behind-out}
+use Rattle.model.proofs.HeldBits.{held-append, held-one, held-other, held-free, none-for}
 use Rattle.model.proofs.Lists.{eqb-same, or-right, tabulate-cong, true-false, tabulate-snoc}
 use Rattle.model.proofs.Reading.{sound-node, total-more}
 use Rattle.network_words.specs.Words.{wordWidth, byteBit, wordFrom, byteKnown}
@@ -28,7 +29,7 @@ use Rattle.network_draft.specs.Represents.{givenOr, Arrays, arrays, Repr
 use Rattle.network_line.proofs.Bounds.{by-count}
 use Rattle.network_draft.proofs.Nodes.{node-by-fields, node-numbers}
 use Rattle.network_draft.proofs.Representing.{snoc-last, snoc-other, steers-more, represented-count, represented-targets, kept-node, len-small}
-use Rattle.network_draft.proofs.GivenBits.{bits-in-length, held-more, held-other, start-more, not-held, Gives, flags-after, start-after, bits-after, known-after}
+use Rattle.network_draft.proofs.GivenBits.{bits-in-length, one, held-more, held-others, Gives, flags-after, start-after, bits-after, known-after}
 
 -- ---- the refusals
 
@@ -95,11 +96,6 @@ bare d n s e = go (s .stage)
 
 -- ---- the RESET of the new node
 
-fresh : (rs : List Held) (m : ℕ) → ((h : Held) → List·Memᴰ h rs → h .segmentNumber ≤ m) → isHeld rs (suc m) ≡ false
-unfolding isHeld
-fresh [] m f = refl
-fresh (h ∷ rs) m f = let l = f h (List·Memᴰ·head refl) in rw (ne-eqb (h .segmentNumber) (suc m) (λ z. omega arith)) (fresh rs m (λ y i. f y (List·Memᴰ·tail i)))
-
 fits-len : (reset len : ℕ) → unfitReset reset len ≡ false → eqb (resetFlag reset) 0 ≡ false → reset ≡ len
 fits-len zero len e g = absurd (true-false g)
 fits-len (suc k) len e g = eqb-true (suc k) len (not-false _ (rw (some-bits k) at e))
@@ -112,15 +108,18 @@ module _ (d : Draft) (x : Node) (ns ns′ : List ℕ) (bare : d .holds ≡ []) (
   unfolding isHeld
   no-hold s = ap (λ (hs : List Held). isHeld hs s) bare
 
+  fresh : isHeld (d .resets) k ≡ false
+  fresh = none-for (d .resets) k (λ h m q. let l = among h m in omega arith)
+
   by-reset : (other : List Trit) (s : ℕ) → givenOr other d s ≡ heldOr other (d .resets) s
-  by-reset other s = not-held _ (d .holds) s (no-hold s)
+  by-reset other s = held-free _ (d .holds) s (no-hold s)
 
   gives : (f : Bytes) → (eqb (resetFlag (length f)) 0 ≡ false → length f ≡ lenOf (nodeAt ns′ k)) → ((r : ℕ) → (r ≡ k → ⊥) → lenOf (nodeAt ns′ r) ≡ lenOf (nodeAt ns r))
       → Gives d (withNode d x (resetIn f)) ns ns′ k f (resetFlag (length f))
   gives [] here others = record {
-    flag-here = rw (no-hold k, fresh (d .resets) (length (d .nodes)) among);
+    flag-here = rw (no-hold k, fresh);
     flag-other = λ r ne. refl;
-    bits-here = λ other. by-reset other k ∙ not-held other (d .resets) k (fresh (d .resets) (length (d .nodes)) among);
+    bits-here = λ other. by-reset other k ∙ held-free other (d .resets) k fresh;
     bits-other = λ other r ne. refl;
     len-here = here;
     len-other = others;
@@ -128,11 +127,11 @@ module _ (d : Draft) (x : Node) (ns ns′ : List ℕ) (bare : d .holds ≡ []) (
   }
   gives (b ∷ f) here others = record {
     flag-here = rw (no-hold k, some-bits (length f)) (ap (λ (t : Bool). cond t byReset 0) (held-more (d .resets) k (bitsIn trit (b ∷ f)) k ∙ or-right (isHeld (d .resets) k) (eqb k k) (eqb-same k)));
-    flag-other = λ r ne. ap (λ (t : Bool). cond (isHeld (d .holds) r) byHold (cond t byReset 0)) (held-other (d .resets) k (bitsIn trit (b ∷ f)) r ne);
-    bits-here = λ other. not-held _ (d .holds) k (no-hold k) ∙ start-more other (d .resets) k (bitsIn trit (b ∷ f)) k
-        ∙ rw (eqb-same k, some-bits (length f)) (not-held (bitsIn trit (b ∷ f)) (d .resets) k (fresh (d .resets) (length (d .nodes)) among));
+    flag-other = λ r ne. ap (λ (t : Bool). cond (isHeld (d .holds) r) byHold (cond t byReset 0)) (held-others (d .resets) k (bitsIn trit (b ∷ f)) r ne);
+    bits-here = λ other. held-free _ (d .holds) k (no-hold k) ∙ held-append other (d .resets) (one k (bitsIn trit (b ∷ f)) ∷ []) k
+        ∙ rw (some-bits (length f)) (ap (λ (ts : List Trit). heldOr ts (d .resets) k) (held-one other (bitsIn trit (b ∷ f)) k) ∙ held-free (bitsIn trit (b ∷ f)) (d .resets) k fresh);
     bits-other = λ other r ne. ap (λ (ts : List Trit). heldOr ts (d .holds) r)
-        (start-more other (d .resets) k (bitsIn trit (b ∷ f)) r ∙ ap (λ (t : Bool). heldOr (cond t (bitsIn trit (b ∷ f)) other) (d .resets) r) (ne-eqb k r (λ z. ne (sym z))));
+        (held-append other (d .resets) (one k (bitsIn trit (b ∷ f)) ∷ []) r ∙ ap (λ (ts : List Trit). heldOr ts (d .resets) r) (held-other other (bitsIn trit (b ∷ f)) k r (λ z. ne (sym z))));
     len-here = here;
     len-other = others;
     without = λ e. absurd (true-false (sym (rw (some-bits (length f)) at e)));

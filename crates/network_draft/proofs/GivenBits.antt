@@ -11,9 +11,9 @@ use lib.Seq.{getD-set-same, getD-set-other}
 use lib.Dec.{eqb}
 use borrow.Author.Tests.{eqb-true, eqb-false, ne-eqb}
 use Rattle.model.specs.Text.{Bytes, Trit, trit, bitsFrom}
-use Rattle.model.specs.Network.{lenOf, Held, heldOr}
+use Rattle.model.specs.Network.{lenOf, Held}
 use Rattle.model.specs.NetworkText.{Draft, isSome, isHeld}
-use Rattle.model.proofs.Lists.{true-false, or-false-right, or-assoc}
+use Rattle.model.proofs.Lists.{or-false-right, or-assoc}
 use Rattle.network_words.specs.Words.{tritsOf, wordOfBits, isSet, isKnown, bitsWord, knownWord, byteBit, wordFrom, byteKnown}
 use Rattle.network_words.proofs.FieldLaws.{trits-of-field, bits-word-of, known-word-of}
 use Rattle.network_path.specs.Layout.{nodeAt}
@@ -41,22 +41,8 @@ unfolding isHeld
 held-more [] s bs r = or-false-right (eqb s r)
 held-more (h ∷ hs) s bs r = ap (λ (t : Bool). eqb (h .segmentNumber) r || t) (held-more hs s bs r) ∙ or-assoc (eqb (h .segmentNumber) r) (isHeld hs r) (eqb s r)
 
-pub held-other : (hs : List Held) (s : ℕ) (bs : List Trit) (r : ℕ) → (r ≡ s → ⊥) → isHeld (hs ++ one s bs ∷ []) r ≡ isHeld hs r
-held-other hs s bs r ne = held-more hs s bs r ∙ ap (λ (t : Bool). isHeld hs r || t) (ne-eqb s r (λ z. ne (sym z))) ∙ or-false-right (isHeld hs r)
-
-pub start-more : (other : List Trit) (hs : List Held) (s : ℕ) (bs : List Trit) (r : ℕ) → heldOr other (hs ++ one s bs ∷ []) r ≡ heldOr (cond (eqb s r) bs other) hs r
-unfolding heldOr
-start-more other [] s bs r = refl
-start-more other (h ∷ hs) s bs r = ap (cond (eqb (h .segmentNumber) r) (h .bits)) (start-more other hs s bs r)
-
-pub not-held : (other : List Trit) (hs : List Held) (s : ℕ) → isHeld hs s ≡ false → heldOr other hs s ≡ other
-unfolding isHeld heldOr
-not-held other [] s e = refl
-not-held other (h ∷ hs) s e = go (eqb (h .segmentNumber) s) e (λ f. not-held other hs s f)
-  where
-    go : (t : Bool) → (t || isHeld hs s) ≡ false → (isHeld hs s ≡ false → heldOr other hs s ≡ other) → cond t (h .bits) (heldOr other hs s) ≡ other
-    go true f g = absurd (true-false f)
-    go false f g = g f
+pub held-others : (hs : List Held) (s : ℕ) (bs : List Trit) (r : ℕ) → (r ≡ s → ⊥) → isHeld (hs ++ one s bs ∷ []) r ≡ isHeld hs r
+held-others hs s bs r ne = held-more hs s bs r ∙ ap (λ (t : Bool). isHeld hs r || t) (ne-eqb s r (λ z. ne (sym z))) ∙ or-false-right (isHeld hs r)
 
 -- a flag tells of a `hold` line
 pub by-hold : {a : Arrays} {t : Summary} {d : Draft} {n : ℕ} → Represents a t d n → (s : ℕ) → s ≤ 128 → eqb (getD (a .held) s 0) byHold ≡ isHeld (d .holds) s

@@ -2,7 +2,7 @@
 -- Assumes nothing.
 use mathlib.Core.Path.{_≡_, refl, sym, ap, _∙_}
 use mathlib.Core.Bool.{Bool, true, false, cond}
-use mathlib.Core.List.{List, [], _∷_, List·Memᴰ·head, List·Memᴰ·tail}
+use mathlib.Core.List.{List, [], _∷_}
 use Prim.Native.Nat.{ℕ, zero, suc, _-_, _^_, _≤_, _<_}
 use native.Mathlib.Omega.{arith}
 use native.Mathlib.Decide.{decLt}
@@ -15,6 +15,7 @@ use Rattle.model.specs.Text.{Trit}
 use Rattle.model.specs.Network.{Node, at, noNode, lenOf, isSteering, Held, heldOr, startBit, silentBits}
 use Rattle.model.specs.NetworkText.{Draft, hasOut, isSome}
 use Rattle.model.specs.Drafted.{HoldsFit, Stage, no-out, behind-out}
+use Rattle.model.proofs.HeldBits.{held-length}
 use Rattle.model.proofs.Lists.{true-false, length-tabulate}
 use Rattle.network_words.specs.Words.{wordOfBits, tritsOf, bitsWord, knownWord}
 use Rattle.network_path.specs.Layout.{nodeAt, configOf}
@@ -49,13 +50,7 @@ empty (x ∷ l) e = absurd (omega (arith, e))
 
 -- none at a number without bits
 none-held : (ns : List Node) (other : List Trit) (hs : List Held) (s : ℕ) → HoldsFit ns hs → lenOf (at ns s noNode) ≡ 0 → other ≡ [] → heldOr other hs s ≡ []
-unfolding heldOr
-none-held ns other [] s f e o = o
-none-held ns other (h ∷ hs) s f e o = go (eqb (h .segmentNumber) s) refl (none-held ns other hs s (λ g m. f g (List·Memᴰ·tail m)) e o)
-  where
-    go : (b : Bool) → eqb (h .segmentNumber) s ≡ b → heldOr other hs s ≡ [] → cond b (h .bits) (heldOr other hs s) ≡ []
-    go true q r = empty (h .bits) (f h (List·Memᴰ·head refl) ∙ ap (λ (k : ℕ). lenOf (at ns k noNode)) (eqb-true (h .segmentNumber) s q) ∙ e)
-    go false q r = r
+none-held ns other hs s f e o = empty (heldOr other hs s) (held-length other hs s 0 (ap length o) (λ h m q. f h m ∙ ap (λ (k : ℕ). lenOf (at ns k noNode)) q ∙ e))
 
 -- ---- the words
 
