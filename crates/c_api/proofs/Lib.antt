@@ -2,3 +2,4 @@
 pub mod Answers
 pub mod Marked
 pub mod Counted
+pub mod Progressed

@@ -9,12 +9,12 @@ use lib.ListN.{length, take}
 use Rattle.model.specs.Limits.{maxPlanBytes}
 use Rattle.model.specs.Text.{Bytes}
 use Rattle.model.specs.Result.{refused}
-use Rattle.model.specs.Tap.{idle}
+use Rattle.model.specs.Tap.{idle, stateNumber, stateAfter}
 use Rattle.model.specs.Places.{_or_, Listed, ClockRefusal, short-row, PlanTextRefusal, plan-line, plan-unended, plan-too-long}
 use Rattle.model.specs.Calls.{writeClocks}
 use Rattle.model.specs.Demands.{OnlyFirst}
 use Rattle.model.proofs.Demands.{clock-buffers, clock-buffers-after, refusals}
-use Rattle.clock_writer.specs.Machine.{stateNumber, isOne, stateAfter}
+use Rattle.clock_writer.specs.Machine.{isOne}
 use Rattle.clock_writer.specs.declared.Written.{Written}
 use Rattle.clock_writer.specs.declared.Written.the-variants.{Refused}
 use Rattle.clock_writer.specs.Clocks.{writtenAnswer, WroteClocks}

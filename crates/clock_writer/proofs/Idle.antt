@@ -8,12 +8,12 @@ use lib.ListN.{take}
 use Rattle.model.specs.Result.{ok}
 use Rattle.model.specs.Text.{Bytes}
 use Rattle.model.specs.Plan.{Plan}
-use Rattle.model.specs.Tap.{Tap, idle, shiftDR, exit1DR, next, Clock, clk, shiftClocks, opClocks, planClocks, bitByte}
+use Rattle.model.specs.Tap.{Tap, idle, shiftDR, exit1DR, next, stateAfter, Clock, clk, shiftClocks, opClocks, planClocks, bitByte}
 use Rattle.model.specs.PlanText.{readPlan}
 use Rattle.model.specs.Calls.{clocksOf, ClocksAnswer, writeClocks}
 use Rattle.model.proofs.Lists.{not-ok, ok-is, handed}
 use Rattle.model.proofs.CallCases.{ClockCase, refuses, writes, clock-case, row-taken}
-use Rattle.clock_writer.specs.Machine.{isOne, stateAfter}
+use Rattle.clock_writer.specs.Machine.{isOne}
 use Rattle.clock_writer.proofs.Rows.{tmsRow}
 
 -- ---- in the model

@@ -12,11 +12,11 @@ use Rattle.model.specs.Plan.{Plan}
 use Rattle.model.specs.PlanText.{readPlan, writePlan}
 use Rattle.model.specs.Tap.{Clock, opClocks, planClocks, bitByte}
 use Rattle.model.specs.Calls.{writeOver, written, clocksOf, rowOf}
-use Rattle.model.proofs.PlanTexts.{text-of, length-line}
+use Rattle.model.proofs.PlanTexts.{text-of, length-line, plan-behind}
 use Rattle.plan_text.specs.Lines.{bitRun}
 use Rattle.plan_text.specs.Writing.{writeAt}
 use Rattle.plan_text.proofs.Lines.{line-room, line-bits, line-next, line-more, line-none}
-use Rattle.plan_text.proofs.Writing.{over-none, over-length, over-behind, plan-behind}
+use Rattle.plan_text.proofs.Writing.{over-none, over-length, over-behind}
 use Rattle.clock_writer.specs.Clocks.{tmsBytes, tdiBytes}
 use Rattle.clock_writer.proofs.Rows.{rowBytes, op-tms, op-tdi, row-behind, row-length}
 

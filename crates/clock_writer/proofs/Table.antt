@@ -9,17 +9,17 @@ use native.Mathlib.Numerals.{add-one}
 use lib.ListN.{length, getD, drop, drop-of-length-le, List·getD-map}
 use lib.Seq.{drop-cons}
 use lib.Dec.{lit<}
-use Rattle.model.specs.Tap.{Tap, reset, idle, selectDR, captureDR, shiftDR, exit1DR, pauseDR, exit2DR, updateDR, selectIR, captureIR, shiftIR, exit1IR, pauseIR, exit2IR, updateIR, next}
+use Rattle.model.specs.Tap.{Tap, reset, idle, selectDR, captureDR, shiftDR, exit1DR, pauseDR, exit2DR, updateDR, selectIR, captureIR, shiftIR, exit1IR, pauseIR, exit2IR, updateIR, next, states, stateAt, stateNumber, stateAfter}
 use Rattle.model.specs.Text.{Bytes}
 use Rattle.model.proofs.Lists.{getD-tabulate}
-use Rattle.clock_writer.specs.Machine.{states, stateAt, stateNumber, isOne, columnOf, nextNumber, stateAfter}
+use Rattle.clock_writer.specs.Machine.{isOne, columnOf, nextNumber}
 
 -- ---- the states and their numbers
 
-number-at : (s : ℕ) → s < 16 → stateNumber (stateAt s) ≡ s
+pub number-at : (s : ℕ) → s < 16 → stateNumber (stateAt s) ≡ s
 number-at s h = sym (List·getD-map stateNumber states s reset) ∙ getD-tabulate (λ k. k) 0 16 s 0 h ∙ zero-add s
 
-numbered : (t : Tap) → (stateNumber t < 16) × (stateAt (stateNumber t) ≡ t)
+pub numbered : (t : Tap) → (stateNumber t < 16) × (stateAt (stateNumber t) ≡ t)
 numbered reset = (lit< tt, refl)
 numbered idle = (lit< tt, refl)
 numbered selectDR = (lit< tt, refl)

@@ -9,12 +9,12 @@ use lib.ListN.{length, take}
 use Rattle.model.specs.Limits.{maxPlanBytes}
 use Rattle.model.specs.Refusals as refusal
 use Rattle.model.specs.Text.{Bytes}
-use Rattle.model.specs.Tap.{idle}
+use Rattle.model.specs.Tap.{idle, stateNumber}
 use Rattle.model.specs.Places.{_or_, ClockRefusal, PlanTextRefusal}
 use Rattle.model.specs.Demands.{OnlyFirst}
 use Rattle.clock_writer.specs.declared.Written.{Written}
 use Rattle.clock_writer.specs.declared.Written.the-variants.{Clocks, Refused}
-use Rattle.clock_writer.specs.Machine.{stateNumber, RunReturned}
+use Rattle.clock_writer.specs.Machine.{RunReturned}
 use Rattle.clock_writer.specs.Clocks.{WroteClocks}
 
 -- ---- demand 1

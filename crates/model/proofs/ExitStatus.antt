@@ -13,7 +13,8 @@ use Rattle.model.specs.PlanText.{readPlan, writePlan}
 use Rattle.model.specs.Planner.{planFor}
 use Rattle.model.specs.Mark.{mark}
 use Rattle.model.specs.Calls.{ifRoom, searchEntries, searchable, found, textOf, planned}
-use Rattle.model.specs.Printed.{printed, showNetwork, readProgram, planProgram, showPass, markProgram, clkLines, clockProgram, exitStatus}
+use Rattle.model.specs.Printed.{printed, showNetwork, readProgram, planProgram, showPass, markProgram, clkLines, clockProgram, recoverProgram, exitStatus}
+use Rattle.model.specs.Recover.{recover}
 use Rattle.model.specs.Demands.{statusFor, StatusTells}
 use Rattle.model.proofs.Lists.{ok-is, handed}
 use Rattle.model.proofs.CallCases.{room-is}
@@ -60,5 +61,9 @@ clock-status : (p : Bytes) → exitStatus (clockProgram p) ≡ statusFor (readPl
 unfolding clockProgram
 clock-status p = status-by clkLines (readPlan p) (λ plan e. clk-status plan)
 
+recover-status : (t : Bytes) → exitStatus (recoverProgram t) ≡ statusFor (recover t)
+unfolding recoverProgram
+recover-status t = status-by writePlan (recover t) (λ plan e. csu-status plan)
+
 pub status-tells : StatusTells
-status-tells = record { reader = read-status; planner = plan-status; marker = mark-status; clock-writer = clock-status }
+status-tells = record { reader = read-status; planner = plan-status; marker = mark-status; clock-writer = clock-status; recoverer = recover-status }

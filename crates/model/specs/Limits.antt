@@ -26,6 +26,10 @@ maxOperations = 16
 abbrev pub maxPlanBytes : ℕ
 maxPlanBytes = 64080
 
+-- document 02, Change 2: "a line over 32,768 bytes", of clocks
+abbrev pub maxLineBytes : ℕ
+maxLineBytes = 32768
+
 -- "Planner: 6 distinct steering bits."
 abbrev pub maxSteeringBits : ℕ
 maxSteeringBits = 6

@@ -73,3 +73,7 @@ target = 17
 -- document 02, Change 1: "18, at the line .. a RESET whose length is not LEN"
 abbrev pub resetLength : ℕ
 resetLength = 18
+
+-- document 02, Change 2: "19, at the first offending line, a wrong line form or an empty field, .."
+abbrev pub clockLine : ℕ
+clockLine = 19

@@ -17,6 +17,9 @@ pub const MAX_OPERATIONS: usize = 16;
 
 pub const MAX_PLAN_BYTES: usize = MAX_OPERATIONS * (MAX_BITS + 5);
 
+// document 02, Change 2: "a line over 32,768 bytes", of clocks
+pub const MAX_LINE_BYTES: usize = 32768;
+
 // "Planner: 6 distinct steering bits."
 pub const MAX_STEERING_BITS: usize = 6;
 

@@ -54,3 +54,6 @@ pub const TARGET: usize = 17;
 
 // document 02, Change 1: "18, at the line .. a RESET whose length is not LEN"
 pub const RESET_LENGTH: usize = 18;
+
+// document 02, Change 2: "19, at the first offending line, a wrong line form or an empty field, .."
+pub const CLOCK_LINE: usize = 19;

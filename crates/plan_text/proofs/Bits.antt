@@ -1,97 +1,43 @@
--- The bits at the front of a text: byte by byte, by blocks and as a whole.
+-- The bits at the front of a text.
 -- Assumes nothing.
-use mathlib.Core.Path.{_≡_, refl, sym, ap, _∙_}
-use mathlib.Core.Bool.{Bool, true, false, cond}
-use mathlib.Core.Option.{Option, none, some}
+use mathlib.Core.Path.{_≡_, refl, ap, _∙_}
+use mathlib.Core.Bool.{Bool, true, false, cond, _&&_}
+use mathlib.Core.Option.{none, some}
 use mathlib.Core.List.{List, [], _∷_, _++_, map}
-use Prim.Native.Nat.{ℕ, zero, suc, _+_, _-_, _≤_, _<_}
+use Prim.Native.Nat.{ℕ, suc, _+_, _-_, _≤_}
 use native.Mathlib.Omega.{arith}
-use native.Mathlib.Numerals.{add-one}
-use lib.ListN.{length, take, drop, getD, drop-of-length-le, length-drop}
-use lib.Seq.{drop-cons, drop-drop}
+use lib.ListN.{length, take, drop, length-drop}
 use lib.Dec.{eqb, leb}
-use borrow.Author.Tests.{ne-eqb, eqb-true, eqb-false, leb-true, leb-false, le-leb, lt-leb}
+use borrow.Author.Tests.{ne-eqb, eqb-true, eqb-false, leb-true, leb-false}
 use Rattle.model.specs.Text.{Bytes, lineEnd, bit}
 use Rattle.model.specs.Tap.{bitByte}
+use Rattle.text.specs.Runs.{inRun, runLength}
 use Rattle.plan_text.specs.Lines.{orStop, bitRun}
 
 -- ---- one byte
 
-bit-other : (b : ℕ) → (48 ≤ b → b < 50 → ⊥) → bit b ≡ none
+bit-other : (b : ℕ) → (48 ≤ b → b ≤ 49 → ⊥) → bit b ≡ none
 bit-other b h = rw (ne-eqb b 48 (λ e. h (omega arith) (omega arith)), ne-eqb b 49 (λ e. h (omega arith) (omega arith)))
 
-bit-known : (b : ℕ) → 48 ≤ b → b < 50 → (v : Bool) × (bit b ≡ some v)
+bit-known : (b : ℕ) → 48 ≤ b → b ≤ 49 → (v : Bool) × (bit b ≡ some v)
 bit-known b l h = go (eqb b 48) refl
   where
     go : (t : Bool) → eqb b 48 ≡ t → (v : Bool) × (cond t (some false) (cond (eqb b 49) (some true) none) ≡ some v)
     go true e = (false, refl)
     go false e = (true, (let q : b ≡ 49 = omega (arith, eqb-false b 48 e) in rw q))
 
--- ---- the bits from place i on, where k is the place behind them
-
-run-by : (t : Bytes) (i : ℕ) → i < length t → (v : Option Bool) → bit (getD t i 0) ≡ v → bitRun (drop i t) ≡ orStop v (bitRun (drop (suc i) t))
-unfolding bitRun
-run-by t i h v e = rw (drop-cons t i 0 h, e)
-
-run-none : (t : Bytes) (i : ℕ) → length t ≤ i → length (bitRun (drop i t)) ≡ 0
-unfolding bitRun
-run-none t i h = rw (drop-of-length-le t h)
-
-module _ (t : Bytes) (i k : ℕ) (whole : i + length (bitRun (drop i t)) ≡ k) where
-  pub run-end : length t ≤ i → i ≡ k
-  run-end h = omega (arith, run-none t i h)
-
-  pub run-stop : i < length t → (48 ≤ getD t i 0 → getD t i 0 < 50 → ⊥) → i ≡ k
-  run-stop h o =
-      let e : length (bitRun (drop i t)) ≡ 0 = ap length (run-by t i h none (bit-other _ o)) in
-      omega arith
-
-  pub run-on : i < length t → 48 ≤ getD t i 0 → getD t i 0 < 50 → i + 1 + length (bitRun (drop (i + 1) t)) ≡ k
-  run-on h l u =
-      let e : length (bitRun (drop i t)) ≡ suc (length (bitRun (drop (suc i) t))) = ap length (run-by t i h _ (bit-known _ l u .1)) in
-      rw add-one (omega arith)
-
--- ---- the bits from a place on, some of them passed at once
-
-run-drop : (t : Bytes) (n : ℕ) → n ≤ length (bitRun t) → length (bitRun t) ≡ n + length (bitRun (drop n t))
-unfolding bitRun
-run-drop t zero h = omega arith
-run-drop [] (suc n) h = absurd (omega arith)
-run-drop (b ∷ t) (suc n) h = go (bit b) (run-drop t n) h
-  where
-    go : (v : Option Bool) → (n ≤ length (bitRun t) → length (bitRun t) ≡ n + length (bitRun (drop n t)))
-        → suc n ≤ length (orStop v (bitRun t)) → length (orStop v (bitRun t)) ≡ suc n + length (bitRun (drop n t))
-    go none f l = absurd (omega arith)
-    go (some x) f l = omega (arith, f (omega arith))
-
-run-past : (t : Bytes) (at n : ℕ) → n ≤ length (bitRun (drop at t)) → at + n + length (bitRun (drop (at + n) t)) ≡ at + length (bitRun (drop at t))
-run-past t at n h = rw (← drop-drop n at t) (omega (arith, run-drop (drop at t) n h))
-
--- a block of n bits passed, where x is the test of it and k the place behind the bits
-pub run-block : (t : Bytes) (at n k : ℕ) → at + length (bitRun (drop at t)) ≡ k → (x : Bool) → x ≡ leb n (length (bitRun (drop at t))) → x ≡ true
-    → at + n + length (bitRun (drop (at + n) t)) ≡ k
-run-block t at n k whole x e good = run-past t at n (leb-true n _ (sym e ∙ good)) ∙ whole
-
--- the test of a block, byte by byte: x is that of the first j bytes
-module _ (t : Bytes) (at j : ℕ) (x : Bool) (tested : x ≡ leb j (length (bitRun (drop at t)))) (inside : at + j < length t) where
-  abbrev count : ℕ
-  count = length (bitRun (drop at t))
-
-  pub block-on : 48 ≤ getD t (at + j) 0 → getD t (at + j) 0 < 50 → x ≡ leb (j + 1) count
-  block-on l u = tested ∙ go (leb j count) refl
-    where
-      go : (y : Bool) → leb j count ≡ y → y ≡ leb (j + 1) count
-      go true e = sym (le-leb (j + 1) count (omega (arith, run-on t (at + j) _ (run-past t at j (leb-true j count e)) inside l u)))
-      go false e = sym (lt-leb (j + 1) count (omega (arith, leb-false j count e)))
-
-  pub block-stop : (48 ≤ getD t (at + j) 0 → getD t (at + j) 0 < 50 → ⊥) → false ≡ leb (j + 1) count
-  block-stop o = go (leb j count) refl
-    where
-      go : (y : Bool) → leb j count ≡ y → false ≡ leb (j + 1) count
-      go true e = sym (lt-leb (j + 1) count (omega (arith, run-stop t (at + j) _ (run-past t at j (leb-true j count e)) inside o)))
-      go false e = sym (lt-leb (j + 1) count (omega (arith, leb-false j count e)))
-
 -- ---- the bits of a whole text
+
+-- as many as the bytes of a run up to `1`
+pub run-is : (t : Bytes) → runLength (inRun 49) t ≡ length (bitRun t)
+unfolding bitRun runLength
+run-is [] = refl
+run-is (b ∷ t) = go (leb 48 b) refl (leb b 49) refl (run-is t)
+  where
+    go : (x : Bool) → leb 48 b ≡ x → (y : Bool) → leb b 49 ≡ y → runLength (inRun 49) t ≡ length (bitRun t) → cond (x && y) (suc (runLength (inRun 49) t)) 0 ≡ length (orStop (bit b) (bitRun t))
+    go true p true q e = rw (bit-known b (leb-true 48 b p) (leb-true b 49 q) .1) (ap suc e)
+    go true p false q e = rw (bit-other b (λ l h. omega (arith, leb-false b 49 q)))
+    go false p y q e = rw (bit-other b (λ l h. omega (arith, leb-false 48 b p)))
 
 -- they are what stands there
 pub run-front : (t : Bytes) → (length (bitRun t) ≤ length t) × (take (length (bitRun t)) t ≡ map bitByte (bitRun t))

@@ -13,8 +13,8 @@ use lib.Seq.{length-take-le, take-suc, drop-cons, drop-drop, set-at, take-at, dr
 use Rattle.model.specs.Plan.{Plan}
 use Rattle.model.specs.PlanText.{writePlan}
 use Rattle.model.specs.Tap.{bitByte}
-use Rattle.model.specs.Text.{lineEnd}
 use Rattle.model.specs.Calls.{writeOver}
+use Rattle.model.proofs.PlanTexts.{plan-behind}
 use Rattle.plan_text.specs.Writing.{writeAt, lineText}
 
 -- ---- one write
@@ -139,11 +139,6 @@ over-behind new more old at e h =
     rw (over-is new old, over-is (new ++ more) old, n) (write-behind 0 new old (omega arith) more)
 
 -- ---- the lines of a plan
-
-pub plan-behind : (plan rest : Plan) → writePlan (plan ++ rest) ≡ writePlan plan ++ writePlan rest
-unfolding writePlan
-plan-behind [] rest = refl
-plan-behind (bs ∷ plan) rest = rw (plan-behind plan rest, append-assoc (map bitByte bs) (lineEnd ∷ writePlan plan) (writePlan rest))
 
 line-alone : (bs : List Bool) → writePlan (bs ∷ []) ≡ lineText (map bitByte bs)
 unfolding writePlan

@@ -5,14 +5,10 @@ ghost use mathlib.Core.Path.{_≡_};
 ghost use mathlib.Core.List.{map};
 ghost use Prim.Native.Nat.{_+_, _≤_};
 ghost use lib.ListN.{length, drop, replicate};
-ghost use lib.Dec.{leb};
 ghost use Rattle.model.specs.Tap.{bitByte};
 ghost use Rattle.plan_text.specs.Form.{formOf, planForm};
 ghost use Rattle.plan_text.specs.Lines.{bitRun, lineFor, nextFrom};
 ghost use Rattle.plan_text.specs.Writing.{writeAt};
-
-// The bytes that are looked at together.
-const BLOCK: usize = 32;
 
 // The form of a plan text: the count of its lines, or the place of refusal 14.
 pub enum Form {
@@ -26,53 +22,12 @@ enum Line {
     Bad,
 }
 
-// Whether the 32 bytes from a place on are all `0` or `1`. The loop has no early exit, so that the compiler can compare many bytes at once.
-fn block_of_bits(s: &[u8], at: usize) -> bool
-    requires { ⌜ at + 32 ≤ length (now s) ⌝ }
-    ensures { λ r. ⌜ r ≡ leb 32 (length (bitRun (drop at (now (s .entry))))) ⌝ }
-{
-    let mut all = true;
-    let mut j: usize = 0;
-    while j < BLOCK {
-        let b = s[at + j];
-        match b {
-            b'0'..=b'1' => {}
-            _ => all = false,
-        }
-        j += 1;
-    }
-    all
-}
-
-// The place behind whole blocks of 32 bits from a place on: the bits from either place on end at the same byte.
-fn blocks_end(s: &[u8], at: usize) -> usize
-    requires { ⌜ at ≤ length (now s) ⌝ }
-    ensures { λ r. ⌜ r + length (bitRun (drop r (now (s .entry)))) ≡ at + length (bitRun (drop at (now (s .entry)))) ⌝ }
-{
-    let mut i = at;
-    while BLOCK <= s.len() - i {
-        if !block_of_bits(s, i) {
-            return i;
-        }
-        i += BLOCK;
-    }
-    i
-}
-
 // The place of the first byte at or behind a place that is neither `0` nor `1`, or the length where there is none.
-fn bits_end(s: &[u8], at: usize) -> usize
+pub fn bits_end(s: &[u8], at: usize) -> usize
     requires { ⌜ at ≤ length (now s) ⌝ }
     ensures { λ r. ⌜ r ≡ at + length (bitRun (drop at (now (s .entry)))) ⌝ }
 {
-    let mut i = blocks_end(s, at);
-    while i < s.len() {
-        let b = s[i];
-        match b {
-            b'0'..=b'1' => i += 1,
-            _ => return i,
-        }
-    }
-    i
+    text::runs::run_end(s, at, b'1')
 }
 
 // The line that starts at a place.

@@ -15,11 +15,11 @@ use Rattle.model.specs.Plan.{Plan}
 use Rattle.model.specs.PlanText.{writePlan}
 use Rattle.model.specs.Calls.{writeOver}
 use Rattle.model.specs.Accepted.{Accepted}
-use Rattle.model.proofs.PlanTexts.{length-line}
+use Rattle.model.proofs.PlanTexts.{length-line, plan-behind}
 use Rattle.network_path.specs.Layout.{scanPath}
 use Rattle.network_path.specs.Answers.{HoldsPath}
 use Rattle.plan_text.specs.Writing.{writeAt, lineText}
-use Rattle.plan_text.proofs.Writing.{over-none, plan-behind, line-behind}
+use Rattle.plan_text.proofs.Writing.{over-none, line-behind}
 use Rattle.planner_theory.specs.Moves.{count, land, decode, StepOf, Follows}
 use Rattle.planner_theory.specs.Settings.{walkAt}
 use Rattle.planner_theory.specs.Choices.{placesOf, choiceBits}

@@ -2,7 +2,7 @@
 use libc::EINTR;
 ghost use Rattle.program_io.specs.Moves.{WithinBuffer};
 
-// Interruptions that the reading of a text or the writing of an answer goes on after. Each loop has to end, so that one
+// Interruptions that the reading of a part or the writing of an answer goes on after. Each loop has to end, so that one
 // more counts as a failure; no signal comes nearly as often.
 pub const MAX_INTERRUPTIONS: usize = 1_000_000;
 

@@ -11,4 +11,5 @@ mod message;
 pub mod output;
 pub mod start;
 pub mod status;
+pub mod stream;
 mod write;

@@ -2,5 +2,6 @@
 pub mod Shown
 pub mod PlanShown
 pub mod ClocksShown
+pub mod RecoveryShown
 pub mod Front
 pub mod Demand

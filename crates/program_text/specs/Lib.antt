@@ -1,3 +1,4 @@
 -- What the contracts of this crate cite, and what follows of them.
 pub mod Printing
+pub mod Recovery
 pub mod Demand

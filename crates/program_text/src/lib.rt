@@ -4,3 +4,4 @@ pub mod clocks;
 pub mod mark;
 pub mod plan;
 pub mod reading;
+pub mod recovery;

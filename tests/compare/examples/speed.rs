@@ -1,6 +1,8 @@
 //! Time of the proved calls over the time of the plain Rust version, in one run.
 //! `cargo run --release --offline --manifest-path tests/compare/Cargo.toml --example speed`
 
+mod recoverings;
+
 use std::hint::black_box;
 use std::time::{Duration, Instant};
 
@@ -22,6 +24,7 @@ use penthluk_reference::programs;
 use penthluk_reference::reader::read_network;
 
 /// How often a case is run.
+#[derive(Clone, Copy)]
 struct Rounds {
     rounds: usize,
     calls: usize,
@@ -252,4 +255,5 @@ fn main() {
     clock_writings();
     plans();
     sets_of_plans();
+    recoverings::recoverings();
 }

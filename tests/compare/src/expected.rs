@@ -1,6 +1,7 @@
 //! The plain Rust version's answers as the numbers that the proved calls give.
 
 use penthluk_reference::marker::{Got, Pass};
+use penthluk_reference::recover::calls::Progress;
 use penthluk_reference::refusal::Refusal;
 
 /// The numbers of a mark.
@@ -24,7 +25,7 @@ pub fn passed(numbers: &[usize; 16]) -> Option<Pass> {
     Some(Pass { operations, clocks, gots: numbers[4..].chunks(3).take(rows).map(row).collect() })
 }
 
-/// The numbers of the clock writer's or the planner's answer.
+/// The numbers of an answer that is a count: of clocks written, or of a plan's bytes.
 pub fn count_numbers(result: &Result<usize, Refusal>) -> [usize; 2] {
     match result {
         Ok(count) => [0, *count],
@@ -32,6 +33,24 @@ pub fn count_numbers(result: &Result<usize, Refusal>) -> [usize; 2] {
     }
 }
 
+/// The numbers of what a line of clocks leads to.
+pub fn step_numbers(result: &Result<Progress, Refusal>) -> [usize; 5] {
+    match result {
+        Ok(progress) => {
+            let [lines, state, entries, bytes] = progress_numbers(progress);
+            [0, lines, state, entries, bytes]
+        }
+        Err(refusal) => {
+            let [number, place] = refusal_numbers(refusal);
+            [number, place, 0, 0, 0]
+        }
+    }
+}
+
+pub fn progress_numbers(progress: &Progress) -> [usize; 4] {
+    [progress.lines, progress.state, progress.entries, progress.bytes]
+}
+
 pub fn refusal_numbers(refusal: &Refusal) -> [usize; 2] {
-    [refusal.number as usize, refusal.place as usize]
+    [refusal.number as usize, refusal.place]
 }

@@ -37,6 +37,33 @@ extern "C" {
         plan_length: usize,
         answer: *mut usize,
     );
+
+    /// `pub extern "C" fn penthluk_recover(text: &[u8], plan: &mut [u8], answer: &mut [usize; 2])`
+    fn penthluk_recover(
+        text: *const u8,
+        text_length: usize,
+        plan: *mut u8,
+        plan_length: usize,
+        answer: *mut usize,
+    );
+
+    /// `pub extern "C" fn penthluk_recover_line(progress: &[usize; 4], line: &[u8], plan: &mut [u8], answer: &mut [usize; 5])`
+    fn penthluk_recover_line(
+        progress: *const usize,
+        line: *const u8,
+        line_length: usize,
+        plan: *mut u8,
+        plan_length: usize,
+        answer: *mut usize,
+    );
+
+    /// `pub extern "C" fn penthluk_recover_end(progress: &[usize; 4], rest: &[u8], answer: &mut [usize; 2])`
+    fn penthluk_recover_end(
+        progress: *const usize,
+        rest: *const u8,
+        rest_length: usize,
+        answer: *mut usize,
+    );
 }
 
 /// A number that no call answers: what stands in an answer before the call.
@@ -102,6 +129,56 @@ pub fn plan(network: &[u8], search: &mut [u16], plan: &mut [u8]) -> [usize; 2] {
             plan.len(),
             answer.as_mut_ptr(),
         )
+    };
+    answer
+}
+
+/// Writes the plan of a text of clocks to the front of `plan`. 0 and the count of its bytes, or number
+/// and place of a refusal.
+pub fn recover(text: &[u8], plan: &mut [u8]) -> [usize; 2] {
+    let mut answer = [UNWRITTEN; 2];
+    // SAFETY: the call has no `requires`; it reads the text and writes within `plan` and the two
+    // numbers.
+    unsafe {
+        penthluk_recover(
+            text.as_ptr(),
+            text.len(),
+            plan.as_mut_ptr(),
+            plan.len(),
+            answer.as_mut_ptr(),
+        )
+    };
+    answer
+}
+
+/// Follows one more line of clocks, without its line end, and writes what it adds to the plan.
+/// `progress` is lines, state, entries and bytes of plan. 0 and the new progress, or number and place of
+/// a refusal and three zeros.
+pub fn recover_line(progress: &[usize; 4], line: &[u8], plan: &mut [u8]) -> [usize; 5] {
+    let mut answer = [UNWRITTEN; 5];
+    // SAFETY: the call has no `requires`; it reads the four numbers and the line and writes within
+    // `plan` and the five numbers.
+    unsafe {
+        penthluk_recover_line(
+            progress.as_ptr(),
+            line.as_ptr(),
+            line.len(),
+            plan.as_mut_ptr(),
+            plan.len(),
+            answer.as_mut_ptr(),
+        )
+    };
+    answer
+}
+
+/// The end of a text of clocks; `rest` is what stands behind its last line end. 0 and the count of the
+/// plan's bytes, or number and place of a refusal.
+pub fn recover_end(progress: &[usize; 4], rest: &[u8]) -> [usize; 2] {
+    let mut answer = [UNWRITTEN; 2];
+    // SAFETY: the call has no `requires`; it reads the four numbers and the rest and writes the two
+    // numbers.
+    unsafe {
+        penthluk_recover_end(progress.as_ptr(), rest.as_ptr(), rest.len(), answer.as_mut_ptr())
     };
     answer
 }

@@ -119,7 +119,7 @@ fn damaged_plans() {
             let bits = random.below(40);
             let (plan, refusal) = damage_plan(random, &plan_line(bits).repeat(lines), fault);
             counts.compare_lengths(&plan);
-            assert_eq!(counts.compare(&plan, 0, MAX_PLAN_BYTES), [14, refusal.place as usize]);
+            assert_eq!(counts.compare(&plan, 0, MAX_PLAN_BYTES), [14, refusal.place]);
         }
     }
     counts.at_least([0, 0, 20_000]);

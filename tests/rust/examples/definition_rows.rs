@@ -2,9 +2,12 @@
 //! generated texts into a folder: `definition_rows FOLDER MODULES`, so many modules of each kind.
 //! Fails if the rows lose a form of RESET. The script tests/definitions has the modules checked.
 
+mod antt_text;
+
 use std::collections::BTreeMap;
 use std::path::Path;
 
+use antt_text::literal;
 use penthluk_reference::generate::cases::{case, Case};
 use penthluk_reference::generate::reset_cases::reset_case;
 use penthluk_reference::generate::reset_forms::reset_forms;
@@ -200,22 +203,6 @@ fn is_searched(network: &[u8], output: &[u8]) -> bool {
     }
     let operations = output.iter().filter(|&&byte| byte == b'\n').count();
     output.starts_with(b"fail") || steering * operations <= MAX_SEARCH
-}
-
-/// The bytes as a quoted text of antt.
-fn literal(bytes: &[u8]) -> Option<String> {
-    let mut text = String::from("\"");
-    for &byte in bytes {
-        match byte {
-            b'\t' => text.push_str("\\t"),
-            b'\n' => text.push_str("\\n"),
-            b'\r' => text.push_str("\\r"),
-            b' ' | b'0'..=b'9' | b'a'..=b'z' | b'A'..=b'Z' => text.push(byte as char),
-            _ => return None,
-        }
-    }
-    text.push('"');
-    Some(text)
 }
 
 const HEAD: &str = include_str!("definition_rows_head.txt");

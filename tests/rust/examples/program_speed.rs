@@ -7,15 +7,20 @@ use std::path::{Path, PathBuf};
 use std::process::{Command, Stdio};
 use std::time::{Duration, Instant};
 
+use penthluk_reference::generate::clock_lines::{idle_line, LONGEST_LINE};
 use penthluk_reference::generate::edges::{held_chain, long_network};
 use penthluk_reference::generate::large::{chain, full};
 use penthluk_reference::generate::maze::gray;
 use penthluk_reference::generate::random::Random;
 use penthluk_reference::limits::{MAX_NETWORK_BITS, MAX_NETWORK_BYTES, MAX_NODES, MAX_OPERATIONS};
 use penthluk_reference::plan_text::write_plan;
+use penthluk_reference::programs;
 
 /// The programs' runs of one case take turns, so many times.
 const ROUNDS: usize = 400;
+
+/// The length of a long text of clocks.
+const IDLE_BYTES: usize = 4_000_000;
 
 /// A program, the texts that it is run on, and what they are.
 struct Case {
@@ -73,7 +78,12 @@ fn cases(work: &Path) -> Vec<Case> {
     };
     let line = |_| (0..MAX_NETWORK_BITS).map(|_| random.bit()).collect();
     let plan = write_plan(&(0..MAX_OPERATIONS).map(line).collect::<Vec<_>>());
+    let clocks = file("longest.clk", &programs::clock(&plan));
     let plan = file("longest.plan", &plan);
+    let [short, long] = [37, LONGEST_LINE].map(|clocks| {
+        let line = idle_line(clocks);
+        file(&format!("idle-{clocks}.clk"), &line.repeat(IDLE_BYTES / line.len()))
+    });
     let network = file("chain.net", &chain(MAX_NODES, MAX_NETWORK_BITS).text());
     let held = file("held.net", &held_chain(&mut Random::new(2)).text());
     let longest = file("longest.net", &long_network(MAX_NETWORK_BYTES));
@@ -87,5 +97,8 @@ fn cases(work: &Path) -> Vec<Case> {
         case("plan, 128 nodes, 4,000 bits", "plan", vec![full]),
         case("mark, the longest plan", "mark", vec![network, plan.clone()]),
         case("clock, the longest plan", "clock", vec![plan]),
+        case("recover, the longest plan", "recover", vec![clocks]),
+        case("recover, 4 MB of waiting, lines of 80 bytes", "recover", vec![short]),
+        case("recover, 4 MB of waiting, the longest lines", "recover", vec![long]),
     ]
 }

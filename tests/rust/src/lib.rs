@@ -1,8 +1,9 @@
-//! Document 01, "A marker and planner for scan network plans", in plain Rust, with Change 1 of document
-//! 02, "Subsequent customer requests".
+//! Document 01, "A marker and planner for scan network plans", in plain Rust, with Changes 1 and 2 of
+//! document 02, "Subsequent customer requests".
 //!
 //! The four programs are `programs::{read, plan, mark, clock}`. The library calls under them are
 //! `reader::read_network`, `planner::make_plan`, `marker::mark` and `clocks::write_clocks`.
+//! `programs::recover` is the program of Change 2, with `recover` under it.
 //! `frame` and `play` are the test frame, `brute` tries every bit string on small networks, and
 //! `generate` makes networks and plans from a seed.
 //!
@@ -25,6 +26,7 @@ pub mod planner;
 pub mod play;
 pub mod programs;
 pub mod reader;
+pub mod recover;
 pub mod refusal;
 pub mod steering;
 pub mod text;

@@ -28,3 +28,6 @@ pub const MAX_STEERING_BITS: usize = 6;
 /// "11,664 search entries": one for each setting of the steering bits (each 0, 1 or X) with each
 /// set of targets reached.
 pub const SEARCH_ENTRIES: usize = 11_664;
+
+/// "a line over 32,768 bytes", of a record of clocks; its line end counts
+pub const MAX_CLOCK_LINE_BYTES: usize = 32_768;

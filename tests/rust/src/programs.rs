@@ -1,4 +1,6 @@
-//! What the four programs print. Lines are tab-parted and end with byte 10.
+//! What the programs print. Lines are tab-parted and end with byte 10.
+
+use std::io::{self, Read};
 
 use crate::clocks::write_clocks;
 use crate::limits::{MAX_PLAN_BYTES, SEARCH_ENTRIES};
@@ -8,6 +10,7 @@ use crate::path::{path_length, walk};
 use crate::plan_text::plan_lines;
 use crate::planner::make_plan;
 use crate::reader::read_network;
+use crate::recover::{self, Recovery};
 use crate::refusal::Refusal;
 use crate::steering::steering_bits;
 
@@ -35,11 +38,28 @@ pub fn clock(plan_text: &[u8]) -> Vec<u8> {
     printed(clock_lines(plan_text))
 }
 
+/// "A program reads `clk` lines": it prints the plan that was played.
+pub fn recover(clock_text: &[u8]) -> Vec<u8> {
+    printed(recover::recover(clock_text))
+}
+
+/// The same for a text that is read piece by piece, so that it may be of any length. At a refusal
+/// reading ends.
+pub fn recover_from(input: &mut impl Read) -> io::Result<Vec<u8>> {
+    let mut piece = vec![0; 1 << 16];
+    let mut recovery = Recovery::default();
+    loop {
+        let count = input.read(&mut piece)?;
+        let fed = recovery.feed(&piece[..count]);
+        if count == 0 || fed.is_err() {
+            return Ok(printed(recovery.end()));
+        }
+    }
+}
+
 /// "A refusal prints `fail`, number, place."
 fn printed(result: Result<Vec<u8>, Refusal>) -> Vec<u8> {
-    result.unwrap_or_else(|refusal| {
-        numbers("fail", &[refusal.number as usize, refusal.place as usize])
-    })
+    result.unwrap_or_else(|refusal| numbers("fail", &[refusal.number as usize, refusal.place]))
 }
 
 /// A line of a word and numbers.

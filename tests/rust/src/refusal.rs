@@ -5,12 +5,12 @@
 #[derive(Clone, Copy, Debug, PartialEq, Eq, Hash)]
 pub struct Refusal {
     pub number: u32,
-    pub place: u32,
+    pub place: usize,
 }
 
 impl Refusal {
     pub fn new(number: u32, place: usize) -> Refusal {
-        Refusal { number, place: place as u32 }
+        Refusal { number, place }
     }
 }
 
@@ -51,3 +51,7 @@ pub const CONFIGURATION: u32 = 16;
 pub const TARGET: u32 = 17;
 /// "It refuses with 18, at the line and directly after 2, a RESET whose length is not LEN."
 pub const RESET: u32 = 18;
+/// "It refuses with 19, at the first offending line, a wrong line form or an empty field, a line over
+/// 32,768 bytes, TMS and TDI of unequal length, entry to Select-IR, a seventeenth entry to Capture-DR,
+/// more than 64,080 bytes of plan [..], or (at the last line) an end outside Run-Test/Idle."
+pub const CLOCK_LINE: u32 = 19;

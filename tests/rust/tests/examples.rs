@@ -1,13 +1,14 @@
 //! What is stored in `examples` is what the Rust version prints.
 
-use penthluk_reference::programs::{clock, mark, plan};
+use penthluk_reference::programs::{clock, mark, plan, recover};
 use std::collections::BTreeMap;
 use std::fs::{read, read_dir};
 use std::path::Path;
 
-/// The kinds of stored files: a network, the plan that is marked, its mark, its clocks, and what
-/// the planner prints where that is not the plan.
-const KINDS: [&str; 5] = ["net", "plan", "mark", "clk", "planned"];
+/// The kinds of stored files: a network, the plan that is marked, its mark, its clocks, what the
+/// planner prints where that is not the plan; clocks as a probe stored them, and what is recovered from
+/// them where that is not the plan.
+const KINDS: [&str; 7] = ["net", "plan", "mark", "clk", "planned", "recorded", "recovered"];
 
 /// The files of a folder by name.
 fn files(folder: &Path) -> BTreeMap<String, Vec<u8>> {
@@ -46,11 +47,16 @@ fn stored_outputs_are_printed() {
         let network = needed("net");
         let marked = needed("plan");
         let planned = stored("planned").unwrap_or(marked);
-        let printed = [
+        let mut printed = vec![
             ("plan", plan(network), planned),
             ("mark", mark(network, marked), needed("mark")),
             ("clk", clock(marked), needed("clk")),
+            ("plan of the clocks", recover(needed("clk")), marked),
         ];
+        if let Some(recorded) = stored("recorded") {
+            let recovered = stored("recovered").unwrap_or(marked);
+            printed.push(("plan of the record", recover(recorded), recovered));
+        }
         for (kind, printed, stored) in printed {
             let [printed, stored] = [&printed, stored].map(|bytes| String::from_utf8_lossy(bytes));
             assert_eq!(printed, stored, "{name}, {kind}");
@@ -65,15 +71,19 @@ fn every_file_belongs_to_a_network() {
         let (name, kind) = file.rsplit_once('.').unwrap_or((file, ""));
         assert!(KINDS.contains(&kind), "{file} is of no kind");
         assert!(examples.contains_key(&format!("{name}.net")), "{file} has no network");
+        let recorded = kind != "recovered" || examples.contains_key(&format!("{name}.recorded"));
+        assert!(recorded, "{file} has no record");
     }
 }
 
 #[test]
-fn planned_is_stored_only_where_it_is_not_the_plan() {
+fn further_files_are_stored_only_where_they_differ() {
     let examples = examples();
     for name in names(&examples) {
-        let planned = examples.get(&format!("{name}.planned"));
-        assert_ne!(planned, examples.get(&format!("{name}.plan")), "{name}");
+        let stored = |kind: &str| examples.get(&format!("{name}.{kind}"));
+        assert_ne!(stored("planned"), stored("plan"), "{name}");
+        assert_ne!(stored("recovered"), stored("plan"), "{name}");
+        assert_ne!(stored("recorded"), stored("clk"), "{name}");
     }
 }
 
@@ -81,10 +91,13 @@ fn planned_is_stored_only_where_it_is_not_the_plan() {
 #[test]
 fn copies_are_as_the_examples() {
     let examples = examples();
-    for program in ["read", "plan", "mark", "clock"] {
-        let data = repository().join("crates").join(program).join("data");
-        for (name, bytes) in files(&data) {
-            assert_eq!(Some(&bytes), examples.get(&name), "crates/{program}/data/{name}");
+    let crates = read_dir(repository().join("crates")).unwrap().map(|entry| entry.unwrap().path());
+    let folders: Vec<_> =
+        crates.map(|path| path.join("data")).filter(|path| path.is_dir()).collect();
+    assert!(folders.len() >= 4, "{folders:?}");
+    for folder in folders {
+        for (name, bytes) in files(&folder) {
+            assert_eq!(Some(&bytes), examples.get(&name), "{}/{name}", folder.display());
         }
     }
 }

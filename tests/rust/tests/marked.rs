@@ -48,7 +48,7 @@ fn check_marks(seed: u64, cases: usize, draw: fn(&mut Random) -> Vec<u8>) -> Ver
                 BIT_COUNT => verdicts.bit_count += 1,
                 TARGET => verdicts.target += 1,
                 CONFIGURATION => {
-                    let upto = refusal.place as usize;
+                    let upto = refusal.place;
                     assert!(some_setting_is_invalid(&network, &operations[..upto], random));
                     verdicts.configuration += 1;
                 }

@@ -5,7 +5,8 @@ use mathlib.Core.List.{map}
 use Prim.Native.Nat.{_-_, _≤_, _<_}
 use lib.ListN.{length, drop}
 use borrow.Author.Needs.{needs}
-use Rattle.clock_writer.specs.Machine.{isOne, stateAt, stateAfter}
+use Rattle.model.specs.Tap.{stateAt, stateAfter}
+use Rattle.clock_writer.specs.Machine.{isOne}
 use Rattle.clock_writer.proofs.Table.{run-end, run-next}
 use Rattle.clock_writer.proofs.run.Statement.{statement}
 use Rattle.clock_writer.proofs.run.Tie as tie

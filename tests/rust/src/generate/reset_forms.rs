@@ -93,7 +93,7 @@ impl Forms {
 
     /// What a refused text has.
     fn note_refused(&mut self, text: &[u8], found: &Found, refusal: Refusal) {
-        let at_line = found.resets.iter().find(|(line, _, _)| *line == refusal.place as usize);
+        let at_line = found.resets.iter().find(|(line, _, _)| *line == refusal.place);
         let other_length = |other: fn(usize) -> usize| {
             let is_other = |(_, len, bits): &(usize, usize, Vec<Bit>)| bits.len() == other(*len);
             refusal.number == RESET && at_line.is_some_and(is_other)

@@ -1,0 +1,54 @@
+-- Clocks that leave the state as it is, taken at once, and what they add to the plan's text.
+-- Assumes nothing.
+use mathlib.Core.Path.{_≡_}
+use mathlib.Core.Bool.{Bool, cond}
+use mathlib.Core.List.{List, [], _∷_, map}
+use Prim.Native.Nat.{ℕ, suc, _+_, _≤_, _<_}
+use lib.ListN.{length, drop, getD}
+use lib.Dec.{eqb}
+use Rattle.model.specs.Text.{Bytes, bytes, lineEnd}
+use Rattle.model.specs.Tap.{captureDR, shiftDR, updateDR, stateAt, stateNumber, Clock, clk, bitByte}
+use Rattle.model.specs.RecoverCalls.{addedText}
+use Rattle.plan_text.specs.Writing.{writeAt}
+use Rattle.clock_writer.specs.Machine.{isOne, nextNumber, RunReturned}
+
+-- TMS 0 by its byte
+abbrev pub isZero : ℕ → Bool
+isZero b = eqb b 48
+
+-- of the first count of these TMS bytes all but the last leave the state, and the last leads to state t
+pub record IsStretch (state : ℕ) (tms : Bytes) (count t : ℕ) : Type 0 where
+  pub some-clock : 1 ≤ count
+  pub within : count ≤ length tms
+  pub stays : (k : ℕ) → suc k < count → nextNumber state (isOne (getD tms k 0)) ≡ state
+  pub leads : (k : ℕ) → suc k ≡ count → nextNumber state (isOne (getD tms k 0)) ≡ t
+
+-- from a place on up to an end: all clocks but the last leave the state
+pub record EndsStretch (state : ℕ) (tms : Bytes) (at end : ℕ) : Type 0 where
+  pub some-clock : at < end
+  pub within : end ≤ length tms
+  pub stays : (k : ℕ) → suc (at + k) < end → nextNumber state (isOne (getD (drop at tms) k 0)) ≡ state
+
+-- what its clocks add to the plan's text: the TDI bits in Shift-DR, byte 10 in Update-DR
+abbrev pub clocksText : ℕ → Bytes → Bytes
+clocksText state bits = cond (eqb state (stateNumber shiftDR)) bits (cond (eqb state (stateNumber updateDR)) (lineEnd ∷ []) [])
+
+-- and the entry to the next state: `csu` and its tab for Capture-DR
+abbrev pub entryText : ℕ → Bytes
+entryText t = cond (eqb t (stateNumber captureDR)) (bytes "csu\t") []
+
+-- the clocks of TMS and TDI bytes
+abbrev pub clocksFrom : Bytes → Bytes → List Clock
+clocksFrom [] tdi = []
+clocksFrom (m ∷ tms) [] = []
+clocksFrom (m ∷ tms) (d ∷ tdi) = clk (isOne m) (isOne d) ∷ clocksFrom tms tdi
+
+-- each `0` or `1`
+abbrev pub AreBits : Bytes → Type 0
+AreBits s = map (λ b. bitByte (isOne b)) s ≡ s
+
+-- `write` went on from a state and a place for these clocks: it returned a state and a place, and left the plan as plan′
+pub record Wrote (state at : ℕ) (tms tdi plan : Bytes) (state′ at′ : ℕ) (plan′ : Bytes) : Type 0 where
+  pub leads : RunReturned state tms state′
+  pub behind : at′ ≡ at + length (addedText (stateAt state) (clocksFrom tms tdi))
+  pub left : plan′ ≡ writeAt at (addedText (stateAt state) (clocksFrom tms tdi)) plan

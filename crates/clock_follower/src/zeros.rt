@@ -1,0 +1,57 @@
+// Runs of zeros, as `text::runs` finds runs: 32 bytes at a time, then single ones. The byte is fixed here, so that the compiler compares
+// with it alone.
+ghost use mathlib.Core.Path.{_≡_};
+ghost use Prim.Native.Nat.{_+_, _≤_};
+ghost use lib.ListN.{length, drop};
+ghost use lib.Dec.{leb};
+ghost use Rattle.text.specs.Runs.{runLength};
+ghost use Rattle.clock_follower.specs.Stretches.{isZero};
+
+// The bytes that are looked at together.
+const BLOCK: usize = 32;
+
+// Whether the 32 bytes from a place on are all `0`. The loop has no early exit, so that the compiler can compare many bytes at once.
+fn zero_block(s: &[u8], at: usize) -> bool
+    requires { ⌜ at + 32 ≤ length (now s) ⌝ }
+    ensures { λ r. ⌜ r ≡ leb 32 (runLength isZero (drop at (now (s .entry)))) ⌝ }
+{
+    let mut all = true;
+    let mut j: usize = 0;
+    while j < BLOCK {
+        if s[at + j] != b'0' {
+            all = false;
+        }
+        j += 1;
+    }
+    all
+}
+
+// The place behind whole blocks of zeros from a place on: the runs from either place on end at the same byte.
+fn zero_blocks_end(s: &[u8], at: usize) -> usize
+    requires { ⌜ at ≤ length (now s) ⌝ }
+    ensures { λ r. ⌜ r + runLength isZero (drop r (now (s .entry))) ≡ at + runLength isZero (drop at (now (s .entry))) ⌝ }
+{
+    let mut i = at;
+    while BLOCK <= s.len() - i {
+        if !zero_block(s, i) {
+            return i;
+        }
+        i += BLOCK;
+    }
+    i
+}
+
+// The place of the first byte at or behind a place that is not `0`, or the length where there is none.
+pub fn zeros_end(s: &[u8], at: usize) -> usize
+    requires { ⌜ at ≤ length (now s) ⌝ }
+    ensures { λ r. ⌜ r ≡ at + runLength isZero (drop at (now (s .entry))) ⌝ }
+{
+    let mut i = zero_blocks_end(s, at);
+    while i < s.len() {
+        if s[i] != b'0' {
+            return i;
+        }
+        i += 1;
+    }
+    i
+}

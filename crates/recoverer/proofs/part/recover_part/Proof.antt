@@ -1,0 +1,82 @@
+-- `recoverer::part::recover_part` meets its contract.
+-- Assumes nothing.
+use mathlib.Core.Path.{ap}
+use borrow.Author.Needs.{needs}
+use Rattle.recoverer.proofs.OnePart.{part-refused, from-answer, part-stopped, part-held}
+use Rattle.recoverer.specs.Answers.{stepped}
+use Rattle.clock_follower.specs.Counts.{progressFor}
+use Rattle.recoverer.proofs.part.recover_part.Statement.{statement}
+use Rattle.recoverer.proofs.part.recover_part.Tie as tie
+
+enum-known-answer : tie.Need-enum-known-answer
+enum-known-answer c = search needs
+
+enum-known-answer-2 : tie.Need-enum-known-answer-2
+enum-known-answer-2 c = search needs
+
+recover-lines-requires : tie.Need-recover-lines-requires
+recover-lines-requires c κs = search needs
+
+sub-unless-long : tie.Need-sub-unless-long
+sub-unless-long c = search needs
+
+part-unless-long-start : tie.Need-part-unless-long-start
+part-unless-long-start c = search needs
+
+part-unless-long-end : tie.Need-part-unless-long-end
+part-unless-long-end c = search needs
+
+unless-long-requires : tie.Need-unless-long-requires
+unless-long-requires c κs = search needs
+
+enum-known-now : tie.Need-enum-known-now
+enum-known-now c = search needs
+
+enum-known-now-2 : tie.Need-enum-known-now-2
+enum-known-now-2 c = search needs
+
+move-to-front-requires : tie.Need-move-to-front-requires
+move-to-front-requires c κs = search needs
+
+returns : tie.Need-returns
+returns c = from-answer _ _ _ _ _ _ _ _ (ap stepped (c .before .answer .given .1)) (part-refused (c .before .before .before .before .before .args .text .now) (c .before .before .before .before .before .args .plan .now) _ _)
+
+same-length : tie.Need-same-length
+same-length c = search needs
+
+same-length-2 : tie.Need-same-length-2
+same-length-2 c = search needs
+
+returns-2 : tie.Need-returns-2
+returns-2 c = from-answer _ _ _ _ _ _ _ _ (ap stepped (c .before .before .before .before .before .before .before .before .before .before .before .before .answer2 .given .1)) (part-stopped (progressFor (c .before .before .before .before .before .before .before .before .before .before .before .before .answer2 .given .0 .0)) (c .before .before .before .before .before .before .before .before .before .before .before .before .before .before .before .before .args .text .now) (c .before .before .before .before .before .before .before .before .before .before .before .before .before .before .before .before .args .plan .now) _ _ _ (c .before .before .before .before .before .before .before .before .recover-lines .ensures) _ (c .before .before .before .unless-long .ensures) _ _ (ap stepped (c .before .now .given .1)))
+
+same-length-3 : tie.Need-same-length-3
+same-length-3 c = search needs
+
+same-length-4 : tie.Need-same-length-4
+same-length-4 c = search needs
+
+returns-3 : tie.Need-returns-3
+returns-3 c = from-answer _ _ _ _ _ _ _ _ (ap stepped (c .before .before .before .before .before .before .before .before .before .before .before .before .before .before .before .before .answer2 .given .1)) (part-held (progressFor (c .before .before .before .before .before .before .before .before .before .before .before .before .before .before .before .before .answer2 .given .0 .0)) (c .before .before .before .before .before .before .before .before .before .before .before .before .before .before .before .before .before .before .before .before .args .text .now) (c .before .before .before .before .before .before .before .before .before .before .before .before .before .before .before .before .before .before .before .before .args .plan .now) _ _ _ (c .before .before .before .before .before .before .before .before .before .before .before .before .recover-lines .ensures) _ (c .before .before .before .before .before .before .before .unless-long .ensures) (progressFor (c .before .before .before .before .before .now2 .given .0 .0)) (ap stepped (c .before .before .before .before .before .now2 .given .1)) _ (c .before .before .move-to-front .ensures .0) _ (c .before .before .move-to-front .ensures .1))
+
+pub recover-part-spec : {M : Type 1} → statement M
+recover-part-spec =
+    tie.close
+    (tie.spec
+    enum-known-answer
+    enum-known-answer-2
+    recover-lines-requires
+    sub-unless-long
+    part-unless-long-start
+    part-unless-long-end
+    unless-long-requires
+    enum-known-now
+    enum-known-now-2
+    move-to-front-requires
+    returns
+    same-length
+    same-length-2
+    returns-2
+    same-length-3
+    same-length-4
+    returns-3)

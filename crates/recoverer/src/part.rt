@@ -1,0 +1,117 @@
+// A text that comes in parts: the lines that have ended, and the rest, which is kept at the front of the caller's buffer.
+use crate::line::Stepped;
+use crate::line::check_line;
+use crate::line::recover_counted;
+use clock_follower::Progress;
+use clock_line::find_line;
+use model::limits::MAX_LINE_BYTES;
+ghost use mathlib.Core.Path.{_≡_};
+ghost use Prim.Native.Nat.{_-_, _≤_};
+ghost use lib.ListN.{length, drop};
+ghost use Rattle.model.specs.Calls.{writeOver};
+ghost use Rattle.clock_follower.specs.Counts.{progressFor};
+ghost use Rattle.recoverer.specs.Answers.{stepped};
+ghost use Rattle.recoverer.specs.Parts.{DidLines, restAnswer, DidPart};
+
+// The answer so far, and how many bytes are held.
+pub struct Recovery {
+    pub answer: Stepped,
+    pub held: usize,
+}
+
+// The answer after the lines that have ended, and where the rest starts.
+pub struct Lines {
+    pub answer: Stepped,
+    pub at: usize,
+}
+
+// The call for each line that has ended, up to a refusal, behind which nothing is held.
+pub fn recover_lines(first: Progress, text: &[u8], plan: &mut [u8]) -> Lines
+    ensures { λ r. ⌜ DidLines (progressFor first) (now (text .entry)) (now (plan .entry)) (stepped (r .answer)) (r .at) (now (plan .exit)) ⌝ }
+{
+    let mut p = first;
+    let mut at: usize = 0;
+    let mut guess: usize = 0;
+    while at < text.len() {
+        let found = find_line(text, at, guess);
+        let end = found.end;
+        if end == text.len() {
+            return Lines {
+                answer: Stepped::To(p),
+                at,
+            };
+        }
+        let done = recover_counted(p, &text[at..end], found.clocks, plan);
+        match done {
+            Stepped::To(q) => p = q,
+            Stepped::Refused(number, place) => {
+                return Lines {
+                    answer: Stepped::Refused(number, place),
+                    at: text.len(),
+                };
+            }
+        }
+        guess = end - at;
+        at = end + 1;
+    }
+    Lines {
+        answer: Stepped::To(p),
+        at,
+    }
+}
+
+// A rest that is too long for a line is refused before its end comes.
+fn unless_long(answer: Stepped, rest: &[u8]) -> Stepped
+    ensures { λ r. ⌜ stepped r ≡ restAnswer (stepped answer) (now (rest .entry)) ⌝ }
+{
+    if rest.len() < MAX_LINE_BYTES {
+        return answer;
+    }
+    match answer {
+        Stepped::To(p) => check_line(p, rest),
+        Stepped::Refused(number, place) => Stepped::Refused(number, place),
+    }
+}
+
+// The bytes from a place on moved to the front; their count.
+fn move_to_front(text: &mut [u8], at: usize) -> usize
+    requires { ⌜ at ≤ length (now text) ⌝ }
+    ensures { λ r. ⌜ r ≡ length (now (text .entry)) - at ⌝ }
+    ensures { λ r. ⌜ now (text .exit) ≡ writeOver (drop at (now (text .entry))) (now (text .entry)) ⌝ }
+{
+    let n = text.len() - at;
+    let mut i: usize = 0;
+    while i < n {
+        text[i] = text[at + i];
+        i += 1;
+    }
+    n
+}
+
+// The next part of a text, behind the bytes held so far: what is held of it then stands at the front.
+pub fn recover_part(answer: Stepped, text: &mut [u8], plan: &mut [u8]) -> Recovery
+    ensures { λ r. ⌜ DidPart (stepped answer) (now (text .entry)) (now (plan .entry)) (stepped (r .answer)) (r .held) (now (text .exit)) (now (plan .exit)) ⌝ }
+{
+    match answer {
+        Stepped::Refused(number, place) => Recovery {
+            answer: Stepped::Refused(number, place),
+            held: 0,
+        },
+        Stepped::To(p) => {
+            let lines = recover_lines(p, text, plan);
+            let at = lines.at;
+            let after = lines.answer;
+            let now = unless_long(after, &text[at..]);
+            match now {
+                Stepped::Refused(number, place) => Recovery {
+                    answer: Stepped::Refused(number, place),
+                    held: 0,
+                },
+                Stepped::To(q) => Recovery {
+                    answer: Stepped::To(q),
+                    held: move_to_front(text, at),
+                },
+            }
+        }
+    }
+}
