@@ -91,6 +91,7 @@ fn draw_rows(seed: u64, counts: &mut BTreeMap<&str, usize>) -> Vec<String> {
         rows.push(program_row(&text));
         rows.push(text_row(random, &text));
         rows.extend(part_rows(random, &text));
+        rows.push(cut_row(random, &text));
     }
     rows.extend((0..ODD).flat_map(|_| odd_rows(random)));
     rows
@@ -135,6 +136,16 @@ fn part_rows(random: &mut Random, text: &[u8]) -> Vec<String> {
     let (last, rest) = after.unwrap_or((progress, rest));
     rows.push(end_row(&last, rest));
     rows
+}
+
+/// What is printed of a text in three parts. The shortest passage has four clocks and five bytes of plan,
+/// and each clock has two bytes of text, so that the buffer is long enough.
+fn cut_row(random: &mut Random, text: &[u8]) -> String {
+    let (first, behind) = text.split_at(random.below(text.len() + 1));
+    let (second, third) = behind.split_at(random.below(behind.len() + 1));
+    let parts = [first, second, third].map(quoted).join(" ∷ ");
+    let printed = quoted(&programs::recover(text));
+    format!("row (cut ({parts} ∷ []) {}) (prints {printed})", quoted(&lent(text.len() + 10)))
 }
 
 /// A progress and what stands behind the last line end.
