@@ -1,7 +1,7 @@
-// Runs of zeros, as `text::runs` finds runs: 32 bytes at a time, then single ones. The byte is fixed here, so that the compiler compares
-// with it alone.
+// Runs of zeros. A run is often shorter than 8 bytes, as bits are sent in bytes: these are looked at first, one by one. Then as
+// `text::runs` finds runs, 32 bytes at a time; the byte is fixed here, so that the compiler compares with it alone.
 ghost use mathlib.Core.Path.{_≡_};
-ghost use Prim.Native.Nat.{_+_, _≤_};
+ghost use Prim.Native.Nat.{_+_, _≤_, _<_};
 ghost use lib.ListN.{length, drop};
 ghost use lib.Dec.{leb};
 ghost use Rattle.text.specs.Runs.{runLength};
@@ -9,6 +9,9 @@ ghost use Rattle.clock_follower.specs.Stretches.{isZero};
 
 // The bytes that are looked at together.
 const BLOCK: usize = 32;
+
+// Those that are looked at first.
+const NEAR: usize = 8;
 
 // Whether the 32 bytes from a place on are all `0`. The loop has no early exit, so that the compiler can compare many bytes at once.
 fn zero_block(s: &[u8], at: usize) -> bool
@@ -41,8 +44,8 @@ fn zero_blocks_end(s: &[u8], at: usize) -> usize
     i
 }
 
-// The place of the first byte at or behind a place that is not `0`, or the length where there is none.
-pub fn zeros_end(s: &[u8], at: usize) -> usize
+// The same by blocks, then byte by byte.
+fn far_end(s: &[u8], at: usize) -> usize
     requires { ⌜ at ≤ length (now s) ⌝ }
     ensures { λ r. ⌜ r ≡ at + runLength isZero (drop at (now (s .entry))) ⌝ }
 {
@@ -54,4 +57,33 @@ pub fn zeros_end(s: &[u8], at: usize) -> usize
         i += 1;
     }
     i
+}
+
+// Up to 8 bytes: where the run ends before, its end.
+fn near_end(s: &[u8], at: usize) -> usize
+    requires { ⌜ at + 8 ≤ length (now s) ⌝ }
+    ensures { λ r. ⌜ (r < at + 8 → r ≡ at + runLength isZero (drop at (now (s .entry)))) ⌝ }
+{
+    let mut k = at;
+    while k < at + NEAR {
+        if s[k] != b'0' {
+            return k;
+        }
+        k += 1;
+    }
+    k
+}
+
+// The place of the first byte at or behind a place that is not `0`, or the length where there is none.
+pub fn zeros_end(s: &[u8], at: usize) -> usize
+    requires { ⌜ at ≤ length (now s) ⌝ }
+    ensures { λ r. ⌜ r ≡ at + runLength isZero (drop at (now (s .entry))) ⌝ }
+{
+    if NEAR <= s.len() - at {
+        let near = near_end(s, at);
+        if near < at + NEAR {
+            return near;
+        }
+    }
+    far_end(s, at)
 }

@@ -1,61 +1,27 @@
--- `clock_follower::zeros::zeros_end` meets its contract. The loop's invariant: the run from i on ends where that from `at` on ends.
+-- `clock_follower::zeros::zeros_end` meets its contract.
 -- Assumes nothing.
-use mathlib.Core.Path.{_≡_}
-use Prim.Native.Nat.{_+_, _-_}
-use lib.ListN.{length, drop}
 use borrow.Author.Needs.{needs}
-use borrow.Author.Tests.{eq-eqb, ne-eqb}
-use Rattle.text.specs.Runs.{runLength}
-use Rattle.clock_follower.specs.Stretches.{isZero}
-use Rattle.text.proofs.RunLaws.{run-end, run-stop, run-on}
 use Rattle.clock_follower.proofs.zeros.zeros_end.Statement.{statement}
 use Rattle.clock_follower.proofs.zeros.zeros_end.Tie as tie
 
-abbrev Inv-loop : tie.InvT-loop
-Inv-loop s at i₀ i = i + runLength isZero (drop i s) ≡ at + runLength isZero (drop at s)
+sub-if1 : tie.Need-sub-if1
+sub-if1 c = search needs
 
-abbrev μ-loop : tie.MeasureT-loop
-μ-loop s at i₀ i = length s - i
+near-end-requires : tie.Need-near-end-requires
+near-end-requires c κs = search needs
 
-zero-blocks-end-requires : tie.Need-zero-blocks-end-requires Inv-loop μ-loop
-zero-blocks-end-requires c κs = search needs
+add-if2 : tie.Need-add-if2
+add-if2 c = search needs
 
-loop-holds : tie.Need-loop-holds Inv-loop μ-loop
-loop-holds c = c .zero-blocks-end .ensures
+returns : tie.Need-returns
+returns c = c .before .near-end .ensures (c .if2 .taken)
 
-shared-slice-read-if1 : tie.Need-shared-slice-read-if1 Inv-loop μ-loop
-shared-slice-read-if1 c = search needs
+far-end-requires : tie.Need-far-end-requires
+far-end-requires c κs = search needs
 
-returns : tie.Need-returns Inv-loop μ-loop
-returns c =
-    let l = c .before .before in
-    run-stop _ _ _ _ (l .before .loop .inv) (l .loop-test .taken) (ne-eqb _ _ (c .if1 .taken))
-
-add-i : tie.Need-add-i Inv-loop μ-loop
-add-i c = search needs
-
-loop-less : tie.Need-loop-less Inv-loop μ-loop
-loop-less c = search needs
-
-loop-again : tie.Need-loop-again Inv-loop μ-loop
-loop-again c =
-    let l = c .before .before in
-    run-on _ _ _ _ (l .before .loop .inv) (l .loop-test .taken) (eq-eqb _ _ (c .if1 .left))
-
-returns-2 : tie.Need-returns-2 Inv-loop μ-loop
-returns-2 c = run-end _ _ _ _ (c .before .loop .inv) (c .loop-test .left)
+returns-2 : tie.Need-returns-2
+returns-2 c = search needs
 
 pub zeros-end-spec : {M : Type 1} → statement M
 zeros-end-spec =
-    tie.close
-    (tie.spec
-    Inv-loop
-    μ-loop
-    zero-blocks-end-requires
-    loop-holds
-    shared-slice-read-if1
-    returns
-    add-i
-    loop-less
-    loop-again
-    returns-2)
+    tie.close (tie.spec sub-if1 near-end-requires add-if2 returns far-end-requires returns-2)
