@@ -4,9 +4,9 @@ use mathlib.Core.Path.{_≡_, refl, sym, ap, _∙_, subst}
 use mathlib.Core.Bool.{Bool, true, false, cond, _||_}
 use mathlib.Core.Option.{Option, none, some}
 use mathlib.Core.List.{List, [], _∷_, map}
-use Prim.Native.Nat.{ℕ, zero, suc, _+_, _-_, _*_, _≤_}
+use Prim.Native.Nat.{ℕ, zero, suc, _+_, _-_, _*_, _≤_, _<_}
 use native.Mathlib.Omega.{arith}
-use lib.ListN.{length, drop, drop-of-length-le}
+use lib.ListN.{length, drop, getD, drop-of-length-le}
 use lib.Seq.{drop-drop}
 use lib.Dec.{eqb, ltb}
 use borrow.Author.Tests.{ltb-false, le-ltb, ne-eqb}
@@ -22,7 +22,6 @@ use Rattle.model.proofs.TapStates.{counts-of-state}
 use Rattle.clock_writer.specs.Machine.{isOne, nextNumber}
 use Rattle.clock_writer.proofs.Table.{numbered}
 use Rattle.clock_follower.specs.Counts.{movedOn, offending, unlessOffending, countsBy, CountsNothing}
-use Rattle.clock_follower.specs.Stretches.{IsStretch}
 
 -- ---- the follower's counts
 
@@ -88,6 +87,13 @@ within-limits p o =
     record { few = ltb-false maxOperations (p .entries) (y .1); short = ltb-false maxPlanBytes (p .planBytes) (x .1) }
 
 -- ---- a stretch
+
+-- of the first count of these TMS bytes all but the last leave the state, and the last leads to state t
+pub record IsStretch (state : ℕ) (tms : Bytes) (count t : ℕ) : Type 0 where
+  pub some-clock : 1 ≤ count
+  pub within : count ≤ length tms
+  pub stays : (k : ℕ) → suc k < count → nextNumber state (isOne (getD tms k 0)) ≡ state
+  pub leads : (k : ℕ) → suc k ≡ count → nextNumber state (isOne (getD tms k 0)) ≡ t
 
 -- the rest of a stretch whose first clock stays
 pub stretch-rest : (state b count t : ℕ) (tms : Bytes) → IsStretch state (b ∷ tms) (suc (suc count)) t → IsStretch state tms (suc count) t
@@ -157,7 +163,7 @@ stopped m e = go (offending m) e
     go true e = refl
     go false e = cc
 
-went-on : (r m : Progress) → some r ≡ unlessOffending m → (r ≡ m) × (offending r ≡ false)
+pub went-on : (r m : Progress) → some r ≡ unlessOffending m → (r ≡ m) × (offending r ≡ false)
 went-on r m e = let x = go (offending m) e in (x .0, ap offending (x .0) ∙ x .1)
   where
     go : (x : Bool) → some r ≡ cond x none (some m) → (r ≡ m) × (x ≡ false)

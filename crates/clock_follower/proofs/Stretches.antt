@@ -2,7 +2,7 @@
 -- Assumes nothing.
 use mathlib.Core.Path.{_≡_, refl, sym, ap, _∙_}
 use mathlib.Core.Bool.{Bool, true, false, cond}
-use mathlib.Core.List.{[], _∷_, _++_, map}
+use mathlib.Core.List.{[], _∷_, _++_, map, append-assoc}
 use Prim.Native.Nat.{ℕ, zero, suc, _+_, _-_, _≤_, _<_}
 use native.Mathlib.Omega.{arith}
 use native.Mathlib.Nat.{add-zero}
@@ -20,8 +20,8 @@ use Rattle.plan_text.specs.Writing.{writeAt}
 use Rattle.plan_text.proofs.Writing.{write-none, write-length, write-behind}
 use Rattle.clock_writer.specs.Machine.{isOne, nextNumber}
 use Rattle.clock_writer.proofs.Table.{number-at, numbered, run-end}
-use Rattle.clock_follower.specs.Stretches.{isZero, IsStretch, EndsStretch, clocksText, entryText, clocksFrom, AreBits, Wrote}
-use Rattle.clock_follower.proofs.Counts.{Staying, staying, stretch-rest}
+use Rattle.clock_follower.specs.Stretches.{isZero, EndsStretch, clocksText, entryText, stretchText, clocksFrom, AreBits, Wrote}
+use Rattle.clock_follower.proofs.Counts.{Staying, staying, IsStretch, stretch-rest}
 
 -- ---- one clock
 
@@ -117,6 +117,22 @@ wrote-as at old e w = rw e w
 pub wrote-none : (at : ℕ) (old : Bytes) {text : Bytes} → text ≡ [] → (at ≡ at + length text) × (old ≡ writeAt at text old)
 wrote-none at old e = rw e (sym (add-zero at), sym (write-none at old))
 
+-- first the clocks, then the entry
+module _ (state at : ℕ) (bits plan : Bytes) (t : ℕ) (room : at + length (stretchText state bits t) ≤ length plan) where
+  pub clocks-fit : at + length (clocksText state bits) ≤ length plan
+  clocks-fit = omega (arith, length-append (clocksText state bits) (entryText t))
+
+  module _ (behind : ℕ) (plan′ : Bytes) (w : (behind ≡ at + length (clocksText state bits)) × (plan′ ≡ writeAt at (clocksText state bits) plan)) where
+    pub entry-fits : behind + length (entryText t) ≤ length plan′
+    entry-fits = omega (arith, length-append (clocksText state bits) (entryText t), w .0, ap length (w .1), write-length at (clocksText state bits) plan clocks-fit)
+
+    pub stretch-put : (at′ : ℕ) (plan″ : Bytes) → (at′ ≡ behind + length (entryText t)) × (plan″ ≡ writeAt behind (entryText t) plan′)
+        → (at′ ≡ at + length (stretchText state bits t)) × (plan″ ≡ writeAt at (stretchText state bits t) plan)
+    stretch-put at′ plan″ z = (
+      omega (arith, w .0, z .0, length-append (clocksText state bits) (entryText t)),
+      z .1 ∙ ap (λ (n : ℕ). writeAt n (entryText t) plan′) (w .0) ∙ ap (writeAt (at + length (clocksText state bits)) (entryText t)) (w .1) ∙ write-behind at (clocksText state bits) plan clocks-fit (entryText t),
+    )
+
 -- ---- stretches as the code finds them
 
 pub stretch-small : (s t count : ℕ) (tms : Bytes) → IsStretch s tms count t → t < 16
@@ -155,7 +171,7 @@ pub written-start : (state at : ℕ) (tms tdi plan : Bytes) → state < 16 → W
 written-start state at tms tdi plan small = record { within = omega arith; small = small; size = refl; leads = refl; behind = refl; left = refl }
 
 -- the bits of the clocks from clock i on up to an end
-abbrev bitsFrom : ℕ → ℕ → Bytes → Bytes
+abbrev pub bitsFrom : ℕ → ℕ → Bytes → Bytes
 bitsFrom i end tdi = take (end - i) (drop i tdi)
 
 module _ (state₀ at₀ : ℕ) (tms tdi plan₀ plan : Bytes) (state at i : ℕ) (so : WrittenTo state₀ at₀ tms tdi plan₀ plan state at i) where
@@ -169,15 +185,18 @@ module _ (state₀ at₀ : ℕ) (tms tdi plan₀ plan : Bytes) (state at i : ℕ
         left = sym (write-none at plan) ∙ ap (λ (x : Bytes). writeAt at x plan) (sym none) ∙ so .left;
       }
 
-  module _ (same : length tdi ≡ length tms) (bits : AreBits tdi) (fits : at₀ + length (addedText (stateAt state₀) (clocksFrom tms tdi)) ≤ length plan₀) (end t : ℕ) (e : EndsStretch state tms i end) (leads : t ≡ nextNumber state (isOne (getD tms (end - 1) 0))) where
+  module _ (same : length tdi ≡ length tms) (bits : AreBits tdi) (end t : ℕ) (e : EndsStretch state tms i end) (leads : t ≡ nextNumber state (isOne (getD tms (end - 1) 0))) where
     x : IsStretch state (drop i tms) (end - i) t
     x = stretch-of state i end t tms e leads
 
     behind-x : i + (end - i) ≡ end
     behind-x = omega (arith, e .some-clock)
 
-    parts : restText state i tms tdi ≡ clocksText state (bitsFrom i end tdi) ++ (entryText t ++ restText t end tms tdi)
-    parts = go (end - i) x ∙ ap (λ (n : ℕ). clocksText state (bitsFrom i end tdi) ++ (entryText t ++ restText t n tms tdi)) behind-x
+    abbrev new : Bytes
+    new = stretchText state (bitsFrom i end tdi) t
+
+    parts : restText state i tms tdi ≡ new ++ restText t end tms tdi
+    parts = go (end - i) x ∙ ap (λ (n : ℕ). clocksText state (bitsFrom i end tdi) ++ (entryText t ++ restText t n tms tdi)) behind-x ∙ sym (append-assoc (clocksText state (bitsFrom i end tdi)) (entryText t) _)
       where
         go : (n : ℕ) → IsStretch state (drop i tms) n t → restText state i tms tdi ≡ clocksText state (take n (drop i tdi)) ++ (entryText t ++ restText t (i + n) tms tdi)
         go zero y = absurd (omega (arith, y .some-clock))
@@ -192,36 +211,20 @@ module _ (state₀ at₀ : ℕ) (tms tdi plan₀ plan : Bytes) (state at i : ℕ
         go zero y = absurd (omega (arith, y .some-clock))
         go (suc n) y = rw (← drop-drop (suc n) i tms) (sym (stretch-state n state t (drop i tms) y) ∙ so .leads)
 
-    -- there is room for the clocks, the entry and the rest
-    room : at + (length (clocksText state (bitsFrom i end tdi)) + (length (entryText t) + length (restText t end tms tdi))) ≤ length plan
-    room =
-        let a = clocksText state (bitsFrom i end tdi) in
-        let b = entryText t in
-        let r = restText t end tms tdi in
-        omega (arith, so .behind, so .size, ap length parts, length-append a (b ++ r), length-append b r)
+    -- where there is room for all, there is room for the next stretch
+    pub stretch-fits : at₀ + length (addedText (stateAt state₀) (clocksFrom tms tdi)) ≤ length plan₀ → at + length new ≤ length plan
+    stretch-fits fits = omega (arith, so .behind, so .size, ap length parts, length-append new (restText t end tms tdi))
 
-    pub clocks-fit : at + length (clocksText state (bitsFrom i end tdi)) ≤ length plan
-    clocks-fit = omega (arith, room)
-
-    module _ (behind : ℕ) (plan′ : Bytes) (p : (behind ≡ at + length (clocksText state (bitsFrom i end tdi))) × (plan′ ≡ writeAt at (clocksText state (bitsFrom i end tdi)) plan)) where
-      pub entry-fits : behind + length (entryText t) ≤ length plan′
-      entry-fits = omega (arith, room, p .0, ap length (p .1), write-length at (clocksText state (bitsFrom i end tdi)) plan clocks-fit)
-
-      pub written-on : (at′ : ℕ) (plan″ : Bytes) → (at′ ≡ behind + length (entryText t)) × (plan″ ≡ writeAt behind (entryText t) plan′)
-          → WrittenTo state₀ at₀ tms tdi plan₀ plan″ t at′ end
-      written-on at′ plan″ q =
-          let a = clocksText state (bitsFrom i end tdi) in
-          let b = entryText t in
-          let r = restText t end tms tdi in
-          let text : writeAt at′ r plan″ ≡ writeAt at (restText state i tms tdi) plan =
-          ap (λ (n : ℕ). writeAt n r plan″) (q .0) ∙ ap (writeAt (behind + length b) r) (q .1) ∙ write-behind behind b plan′ entry-fits r
-          ∙ ap (λ (n : ℕ). writeAt n (b ++ r) plan′) (p .0) ∙ ap (writeAt (at + length a) (b ++ r)) (p .1) ∙ write-behind at a plan clocks-fit (b ++ r)
-          ∙ ap (λ (l : Bytes). writeAt at l plan) (sym parts) in
-          record {
-            within = e .within;
-            small = stretch-small state t (end - i) (drop i tms) x;
-            size = ap length (q .1) ∙ write-length behind b plan′ entry-fits ∙ ap length (p .1) ∙ write-length at a plan clocks-fit ∙ so .size;
-            leads = state-on;
-            behind = omega (arith, so .behind, p .0, q .0, ap length parts, length-append a (b ++ r), length-append b r);
-            left = text ∙ so .left;
-          }
+    pub written-on : at + length new ≤ length plan → (at′ : ℕ) (plan′ : Bytes) → (at′ ≡ at + length new) × (plan′ ≡ writeAt at new plan) → WrittenTo state₀ at₀ tms tdi plan₀ plan′ t at′ end
+    written-on room at′ plan′ w =
+        let rest = restText t end tms tdi in
+        let text : writeAt at′ rest plan′ ≡ writeAt at (restText state i tms tdi) plan =
+        ap (λ (n : ℕ). writeAt n rest plan′) (w .0) ∙ ap (writeAt (at + length new) rest) (w .1) ∙ write-behind at new plan room rest ∙ ap (λ (l : Bytes). writeAt at l plan) (sym parts) in
+        record {
+          within = e .within;
+          small = stretch-small state t (end - i) (drop i tms) x;
+          size = ap length (w .1) ∙ write-length at new plan room ∙ so .size;
+          leads = state-on;
+          behind = omega (arith, so .behind, w .0, ap length parts, length-append new rest);
+          left = text ∙ so .left;
+        }

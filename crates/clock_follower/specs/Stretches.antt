@@ -2,26 +2,21 @@
 -- Assumes nothing.
 use mathlib.Core.Path.{_≡_}
 use mathlib.Core.Bool.{Bool, cond}
-use mathlib.Core.List.{List, [], _∷_, map}
+use mathlib.Core.Option.{Option, some}
+use mathlib.Core.List.{List, [], _∷_, _++_, map}
 use Prim.Native.Nat.{ℕ, suc, _+_, _≤_, _<_}
 use lib.ListN.{length, drop, getD}
 use lib.Dec.{eqb}
 use Rattle.model.specs.Text.{Bytes, bytes, lineEnd}
 use Rattle.model.specs.Tap.{captureDR, shiftDR, updateDR, stateAt, stateNumber, Clock, clk, bitByte}
-use Rattle.model.specs.RecoverCalls.{addedText}
+use Rattle.model.specs.RecoverCalls.{Progress, underWay, addedText}
 use Rattle.plan_text.specs.Writing.{writeAt}
 use Rattle.clock_writer.specs.Machine.{isOne, nextNumber, RunReturned}
+use Rattle.clock_follower.specs.Counts.{countsBy}
 
 -- TMS 0 by its byte
 abbrev pub isZero : ℕ → Bool
 isZero b = eqb b 48
-
--- of the first count of these TMS bytes all but the last leave the state, and the last leads to state t
-pub record IsStretch (state : ℕ) (tms : Bytes) (count t : ℕ) : Type 0 where
-  pub some-clock : 1 ≤ count
-  pub within : count ≤ length tms
-  pub stays : (k : ℕ) → suc k < count → nextNumber state (isOne (getD tms k 0)) ≡ state
-  pub leads : (k : ℕ) → suc k ≡ count → nextNumber state (isOne (getD tms k 0)) ≡ t
 
 -- from a place on up to an end: all clocks but the last leave the state
 pub record EndsStretch (state : ℕ) (tms : Bytes) (at end : ℕ) : Type 0 where
@@ -36,6 +31,9 @@ clocksText state bits = cond (eqb state (stateNumber shiftDR)) bits (cond (eqb s
 -- and the entry to the next state: `csu` and its tab for Capture-DR
 abbrev pub entryText : ℕ → Bytes
 entryText t = cond (eqb t (stateNumber captureDR)) (bytes "csu\t") []
+
+abbrev pub stretchText : ℕ → Bytes → ℕ → Bytes
+stretchText state bits t = clocksText state bits ++ entryText t
 
 -- the clocks of TMS and TDI bytes
 abbrev pub clocksFrom : Bytes → Bytes → List Clock
@@ -52,3 +50,12 @@ pub record Wrote (state at : ℕ) (tms tdi plan : Bytes) (state′ at′ : ℕ) 
   pub leads : RunReturned state tms state′
   pub behind : at′ ≡ at + length (addedText (stateAt state) (clocksFrom tms tdi))
   pub left : plan′ ≡ writeAt at (addedText (stateAt state) (clocksFrom tms tdi)) plan
+
+-- all bytes that are counted stand before a place, but for byte 10 of a passage under way
+abbrev pub StandsBefore : ℕ → ℕ → ℕ → Type 0
+StandsBefore at state count = at + cond (underWay state) 1 0 ≡ count
+
+-- `play` went on from a progress and a place for these clocks: it answered r; where it did not refuse, it left the plan as plan′
+pub record Played (p : Progress) (at : ℕ) (tms tdi plan : Bytes) (r : Option Progress) (plan′ : Bytes) : Type 0 where
+  pub answers : r ≡ countsBy p (map isOne tms)
+  pub left : (q : Progress) → r ≡ some q → plan′ ≡ writeAt at (addedText (stateAt (p .state)) (clocksFrom tms tdi)) plan

@@ -19,7 +19,7 @@ ghost use Rattle.model.specs.Tap.{stateAt};
 ghost use Rattle.clock_writer.specs.Machine.{isOne, nextNumber};
 ghost use Rattle.plan_text.specs.Writing.{writeAt};
 ghost use Rattle.clock_follower.specs.Counts.{progressFor, movedOn, offending, unlessOffending, followedFor, countsBy, CountsNothing};
-ghost use Rattle.clock_follower.specs.Stretches.{EndsStretch, clocksText, entryText, clocksFrom, AreBits, Wrote};
+ghost use Rattle.clock_follower.specs.Stretches.{EndsStretch, clocksText, entryText, stretchText, clocksFrom, AreBits, Wrote, StandsBefore, Played};
 
 const CAPTURE_DR: u8 = 3;
 
@@ -195,6 +195,16 @@ fn put_entry(plan: &mut [u8], at: usize, next: u8) -> usize
     at
 }
 
+// What a stretch adds, from a place on; the place behind it.
+fn put_stretch(plan: &mut [u8], at: usize, state: u8, bits: &[u8], next: u8) -> usize
+    requires { ⌜ at + length (stretchText state (now bits) next) ≤ length (now plan) ⌝ }
+    ensures { λ r. ⌜ r ≡ at + length (stretchText state (now (bits .entry)) next) ⌝ }
+    ensures { λ r. ⌜ now (plan .exit) ≡ writeAt at (stretchText state (now (bits .entry)) next) (now (plan .entry)) ⌝ }
+{
+    let behind = put_clocks(plan, at, state, bits);
+    put_entry(plan, behind, next)
+}
+
 // What the clocks of these TMS and TDI bytes add to the plan's text.
 pub fn write(pen: Pen, tms: &[u8], tdi: &[u8], plan: &mut [u8]) -> Pen
     requires { ⌜ (pen .state < 16) × (length (now tdi) ≡ length (now tms)) × AreBits (now tdi) ⌝ }
@@ -207,10 +217,34 @@ pub fn write(pen: Pen, tms: &[u8], tdi: &[u8], plan: &mut [u8]) -> Pen
     while i < tms.len() {
         let end = stretch_end(state, tms, i);
         let next = next_state(state, tms[end - 1]);
-        let behind = put_clocks(plan, at, state, &tdi[i..end]);
-        at = put_entry(plan, behind, next);
+        at = put_stretch(plan, at, state, &tdi[i..end], next);
         state = next;
         i = end;
     }
     Pen { state, at }
+}
+
+// Both at once, into a buffer with room for every plan, which is free where the clocks are refused: each stretch is counted before
+// it is written, and what stands in the buffer is never more than what is counted.
+pub fn play(p: Progress, place: usize, tms: &[u8], tdi: &[u8], plan: &mut [u8]) -> Followed
+    requires { ⌜ (p .state < 16) × (p .entries ≤ 16) × (p .bytes ≤ 64080) × (length (now tms) ≤ 32768) ⌝ }
+    requires { ⌜ (length (now tdi) ≡ length (now tms)) × AreBits (now tdi) × StandsBefore place (p .state) (p .bytes) × (64080 ≤ length (now plan)) ⌝ }
+    ensures { λ r. ⌜ Played (progressFor p) place (now (tms .entry)) (now (tdi .entry)) (now (plan .entry)) (followedFor r) (now (plan .exit)) ⌝ }
+{
+    let mut now = p;
+    let mut at = place;
+    let mut i: usize = 0;
+    while i < tms.len() {
+        let state = now.state;
+        let end = stretch_end(state, tms, i);
+        let next = next_state(state, tms[end - 1]);
+        let then = passed(now, end - i, next);
+        match then {
+            Followed::To(q) => now = q,
+            Followed::Offends => return Followed::Offends,
+        }
+        at = put_stretch(plan, at, state, &tdi[i..end], next);
+        i = end;
+    }
+    Followed::To(now)
 }

@@ -9,8 +9,7 @@ use lib.ListN.{length, drop}
 use borrow.Author.Needs.{needs}
 use Rattle.clock_writer.specs.Machine.{isOne}
 use Rattle.clock_follower.specs.Counts.{progressFor, followedFor, countsBy}
-use Rattle.clock_follower.specs.Stretches.{IsStretch}
-use Rattle.clock_follower.proofs.Counts.{counts-stop, counts-on, counts-end}
+use Rattle.clock_follower.proofs.Counts.{IsStretch, counts-stop, counts-on, counts-end}
 use Rattle.clock_follower.proofs.Stretches.{stretch-small, stretch-of}
 use Rattle.clock_follower.proofs.follow.Statement.{statement}
 use Rattle.clock_follower.proofs.follow.Tie as tie

@@ -4,7 +4,7 @@
 use Prim.Native.Nat.{_-_}
 use native.Mathlib.Omega.{arith}
 use lib.ListN.{length}
-use Rattle.clock_follower.proofs.Stretches.{WrittenTo, written-start, written-end, clocks-fit, entry-fits, written-on}
+use Rattle.clock_follower.proofs.Stretches.{WrittenTo, written-start, written-end, stretch-fits, written-on}
 use Rattle.clock_follower.proofs.write.Statement.{statement}
 use Rattle.clock_follower.proofs.write.Tie as tie
 
@@ -29,40 +29,33 @@ shared-slice-read-next-state c = omega (arith, c .before .stretch-end .ensures .
 next-state-requires : tie.Need-next-state-requires Inv-loop μ-loop
 next-state-requires c κs = c .before .before .before .loop .inv .small
 
-sub-put-clocks : tie.Need-sub-put-clocks Inv-loop μ-loop
-sub-put-clocks c = omega (arith, c .before .before .before .stretch-end .ensures .some-clock)
+sub-put-stretch : tie.Need-sub-put-stretch Inv-loop μ-loop
+sub-put-stretch c = omega (arith, c .before .before .before .stretch-end .ensures .some-clock)
 
-part-put-clocks-start : tie.Need-part-put-clocks-start Inv-loop μ-loop
-part-put-clocks-start c = omega (arith, c .before .before .before .stretch-end .ensures .some-clock)
+part-put-stretch-start : tie.Need-part-put-stretch-start Inv-loop μ-loop
+part-put-stretch-start c = omega (arith, c .before .before .before .stretch-end .ensures .some-clock)
 
-part-put-clocks-end : tie.Need-part-put-clocks-end Inv-loop μ-loop
-part-put-clocks-end c = omega (arith, c .before .before .before .stretch-end .ensures .within, c .before .before .before .before .before .before .before .before .before .pre .0 .1)
+part-put-stretch-end : tie.Need-part-put-stretch-end Inv-loop μ-loop
+part-put-stretch-end c = omega (arith, c .before .before .before .stretch-end .ensures .within, c .before .before .before .before .before .before .before .before .before .pre .0 .1)
 
-put-clocks-requires : tie.Need-put-clocks-requires Inv-loop μ-loop
-put-clocks-requires c κs =
+put-stretch-requires : tie.Need-put-stretch-requires Inv-loop μ-loop
+put-stretch-requires c κs =
     let t = c .before .before in
     let l = t .before .before .before .before in
     let p = l .before .before .before .before .pre in
-    clocks-fit _ _ _ _ _ _ _ _ _ (l .loop .inv) (p .0 .1) (p .0 .2) (p .1) _ _ (t .before .before .stretch-end .ensures) (t .next-state .ensures)
-
-put-entry-requires : tie.Need-put-entry-requires Inv-loop μ-loop
-put-entry-requires c κs =
-    let w = c .before .before .before in
-    let t = w .before .before .before in
-    let l = t .before .before .before .before in
-    let p = l .before .before .before .before .pre in
-    entry-fits _ _ _ _ _ _ _ _ _ (l .loop .inv) (p .0 .1) (p .0 .2) (p .1) _ _ (t .before .before .stretch-end .ensures) (t .next-state .ensures) _ _ (w .put-clocks .ensures)
+    stretch-fits _ _ _ _ _ _ _ _ _ (l .loop .inv) (p .0 .1) (p .0 .2) _ _ (t .before .before .stretch-end .ensures) (t .next-state .ensures) (p .1)
 
 loop-less : tie.Need-loop-less Inv-loop μ-loop
-loop-less c = let e = c .before .before .before .before .before .before .before .before .before .before .before .stretch-end .ensures in omega (arith, e .some-clock, e .within)
+loop-less c = let e = c .before .before .before .before .before .before .before .stretch-end .ensures in omega (arith, e .some-clock, e .within)
 
 loop-again : tie.Need-loop-again Inv-loop μ-loop
 loop-again c =
-    let w = c .before .before .before .before .before .before in
-    let t = w .before .before .before in
+    let t = c .before .before .before .before .before in
     let l = t .before .before .before .before in
     let p = l .before .before .before .before .pre in
-    written-on _ _ _ _ _ _ _ _ _ (l .loop .inv) (p .0 .1) (p .0 .2) (p .1) _ _ (t .before .before .stretch-end .ensures) (t .next-state .ensures) _ _ (w .put-clocks .ensures) _ _ (c .before .before .put-entry .ensures)
+    let e = t .before .before .stretch-end .ensures in
+    let n = t .next-state .ensures in
+    written-on _ _ _ _ _ _ _ _ _ (l .loop .inv) (p .0 .1) (p .0 .2) _ _ e n (stretch-fits _ _ _ _ _ _ _ _ _ (l .loop .inv) (p .0 .1) (p .0 .2) _ _ e n (p .1)) _ _ (c .before .before .put-stretch .ensures)
 
 same-length : tie.Need-same-length Inv-loop μ-loop
 same-length c = c .before .loop .inv .size
@@ -81,11 +74,10 @@ write-spec =
     sub-next-state
     shared-slice-read-next-state
     next-state-requires
-    sub-put-clocks
-    part-put-clocks-start
-    part-put-clocks-end
-    put-clocks-requires
-    put-entry-requires
+    sub-put-stretch
+    part-put-stretch-start
+    part-put-stretch-end
+    put-stretch-requires
     loop-less
     loop-again
     same-length
