@@ -7,12 +7,11 @@ use lib.ListN.{length, take, drop, getD}
 use Rattle.model.specs.Text.{Bytes, bytes}
 use Rattle.model.specs.Drawn.{ProgramRow, prints, starred}
 use Rattle.model.specs.Printed.{printed}
-use Rattle.model.specs.RecoverCalls.{Recovery, recoveryEnd}
 use Rattle.model.proofs.Demands.{drawn}
 use Rattle.model.proofs.Requests.{cut-in-parts}
 use Rattle.plan_text.specs.Writing.{writeAt}
 use Rattle.program_text.specs.Demand.{WritesShown, StarredWritten, RecoveredWritten}
-use Rattle.program_text.proofs.RecoveryShown.{took-parts}
+use Rattle.program_text.proofs.RecoveryShown.{alike-end, took-parts}
 
 front : (xs ys : List ℕ) → take (length xs) (xs ++ ys) ≡ xs
 front [] ys = refl
@@ -37,4 +36,4 @@ starred-written k m old r new p =
 
 pub recovered-written : RecoveredWritten
 recovered-written orig cut answer rest plan few room took r new p =
-    writes-shown _ plan r new p ∙ ap (λ (x : Recovery). printed (λ text. text) (recoveryEnd x)) (took-parts orig cut answer rest plan took) ∙ cut-in-parts cut orig few room
+    writes-shown _ plan r new p ∙ ap (printed (λ text. text)) (alike-end _ _ (took-parts orig cut answer rest plan took)) ∙ cut-in-parts cut orig few room

@@ -1,12 +1,12 @@
 -- What the recover program prints, by the answer of the call for the end; and parts in turn are those of the model.
 -- Assumes nothing.
-use mathlib.Core.Path.{_≡_, refl, sym, ap, _∙_}
+use mathlib.Core.Path.{_≡_, refl, sym, ap, _∙_, subst}
 use mathlib.Core.Bool.{not}
 use mathlib.Core.List.{List, [], _∷_, _++_}
 use Prim.Native.Nat.{ℕ, suc, _≤_}
 use native.Mathlib.Omega.{arith}
 use native.Mathlib.Nat.{zero-add}
-use lib.ListN.{length, take, drop, take-append-drop}
+use lib.ListN.{length, take, take-append-drop}
 use lib.Seq.{length-take-le}
 use lib.Dec.{eqb}
 use borrow.Author.Tests.{not-false}
@@ -72,12 +72,46 @@ unfolding recoverParts
 parts-more r [] part = refl
 parts-more r (first ∷ cut) part = parts-more (recoverPart (r .answer) (r .rest ++ first)) cut part
 
-did-one : (r : Result Progress) (rest plan part : Bytes) (r′ : Result Progress) (held : ℕ) (text′ plan′ : Bytes) → DidPart r (rest ++ part) plan r′ held text′ plan′
-    → holding r′ (take held text′) plan′ ≡ recoverPart (answerBefore r plan) (rest ++ part)
-did-one r rest plan part r′ held text′ plan′ d = rw (d .answers, d .left, d .rest)
+-- the same but for the plan buffer after a refusal
+pub record Alike (m n : Recovery) : Type 0 where
+  pub result : m .answer .result ≡ n .answer .result
+  pub rest : m .rest ≡ n .rest
+  pub plan : (q : Progress) → m .answer .result ≡ ok q → m .answer .plan ≡ n .answer .plan
 
-pub took-parts : (orig : Bytes) (cut : List Bytes) (r : Result Progress) (rest plan : Bytes) → Took orig cut r rest plan → holding r rest plan ≡ recoverParts (started orig) cut
+alike-then : (a b c : Recovery) → Alike a b → Alike b c → Alike a c
+alike-then a b c x y = record { result = x .result ∙ y .result; rest = x .rest ∙ y .rest; plan = λ q e. x .plan q e ∙ y .plan q (sym (x .result) ∙ e) }
+
+module _ (m n : Recovery) (a : Alike m n) where
+  -- n with the answer and the rest of m
+  abbrev given : Recovery
+  given = holding (m .answer .result) (m .rest) (n .answer .plan)
+
+  same-given : given ≡ n
+  same-given = ap (λ (r : Result Progress). holding r (m .rest) (n .answer .plan)) (a .result) ∙ ap (λ (l : Bytes). holding (n .answer .result) l (n .answer .plan)) (a .rest)
+
+  alike-on : (part : Bytes) → Alike (recoverPart (m .answer) (m .rest ++ part)) (recoverPart (n .answer) (n .rest ++ part))
+  unfolding recoverPart
+  alike-on part =
+      subst (λ (x : Recovery). Alike (recoverPart (m .answer) (m .rest ++ part)) (recoverPart (x .answer) (x .rest ++ part))) same-given (go (m .answer .result) (a .plan) (m .rest ++ part))
+    where
+      go : (r : Result Progress) → ((q : Progress) → r ≡ ok q → m .answer .plan ≡ n .answer .plan)
+          → (text : Bytes) → Alike (recoverPart (answerBefore r (m .answer .plan)) text) (recoverPart (answerBefore r (n .answer .plan)) text)
+      go (ok p) e text = rw (e p refl) (record { result = refl; rest = refl; plan = λ q f. refl })
+      go (refused k place) e text = record { result = refl; rest = refl; plan = λ q f. absurd (not-ok f) }
+
+  pub alike-end : recoveryEnd m ≡ recoveryEnd n
+  unfolding recoveryEnd
+  alike-end = go (m .answer .result) (a .plan) ∙ ap recoveryEnd same-given
+    where
+      go : (r : Result Progress) → ((q : Progress) → r ≡ ok q → m .answer .plan ≡ n .answer .plan)
+          → recoveryEnd (holding r (m .rest) (m .answer .plan)) ≡ recoveryEnd (holding r (m .rest) (n .answer .plan))
+      go (ok p) e = rw (e p refl)
+      go (refused k place) e = refl
+
+pub took-parts : (orig : Bytes) (cut : List Bytes) (r : Result Progress) (rest plan : Bytes) → Took orig cut r rest plan → Alike (holding r rest plan) (recoverParts (started orig) cut)
 unfolding recoverParts
-took-parts orig cut r rest plan none-yet = refl
+took-parts orig cut r rest plan none-yet = record { result = refl; rest = refl; plan = λ q e. refl }
 took-parts orig cut r rest plan (one-more {cut = before} {r = q} {rest = held} {plan = old} t part d) =
-    did-one q held old part _ _ _ _ d ∙ ap (λ (x : Recovery). recoverPart (x .answer) (x .rest ++ part)) (took-parts orig before q held old t) ∙ sym (parts-more (started orig) before part)
+    let one : Alike (holding r rest plan) (recoverPart (answerBefore q old) (held ++ part)) = record { result = d .answers; rest = d .rest; plan = d .left } in
+    let on = alike-on (holding q held old) (recoverParts (started orig) before) (took-parts orig before q held old t) part in
+    subst (Alike (holding r rest plan)) (sym (parts-more (started orig) before part)) (alike-then _ _ _ one on)

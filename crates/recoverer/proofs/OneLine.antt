@@ -11,6 +11,7 @@ use lib.ListN.{length, take, drop}
 use lib.Seq.{drop-drop}
 use Rattle.model.specs.Calls.{writeOver}
 use Rattle.model.specs.ClockText.{clkLine}
+use Rattle.model.specs.Limits.{maxPlanBytes}
 use Rattle.model.specs.Recover.{Follower, followClocks, ifFollowed}
 use Rattle.model.specs.RecoverCalls.{Progress, progressOf, underWay, canGoOn, addedText, bytesWritten, resumed, Step, stepOver, stepLine, LineAnswer, recoverLine}
 use Rattle.model.specs.Refusals as refusal
@@ -30,6 +31,7 @@ use Rattle.clock_line.proofs.Lines.{HasClocks, counted-clocks, uncounted}
 use Rattle.clock_follower.specs.Counts.{countsBy}
 use Rattle.clock_follower.proofs.Counts.{counts-followed}
 use Rattle.recoverer.specs.Answers.{progressAfter, clocksIn, textOfLine, CanPut}
+use Rattle.recoverer.specs.Parts.{PlayedLine}
 use Rattle.recoverer.proofs.Pins.{ones}
 
 -- ---- where a line leads
@@ -128,6 +130,9 @@ module _ (p : Progress) (l : Bytes) (plan : List ℕ) where
     pub counted-after : cond (underWay (q .state)) 1 0 ≤ q .planBytes
     counted-after = rw (done .2) at (step-done p l (done .0) (done .1) .counted)
 
+    pub bytes-short : q .planBytes ≤ maxPlanBytes
+    bytes-short = omega (arith, step-done p l (done .0) (done .1) .short, bytes-are)
+
     pub call-short : length plan < q .planBytes → Leaves (refused refusal.buffer (q .planBytes)) plan
     call-short h =
         let r = leaves _ (line-short p l plan (done .0) (done .1) (omega (arith, bytes-are))) in
@@ -161,3 +166,15 @@ module _ (p : Progress) (l : Bytes) (plan : List ℕ) where
           none-of : (x : Bytes) → length x ≡ 0 → x ≡ []
           none-of [] e = refl
           none-of (b ∷ x) e = absurd (omega arith)
+
+-- ---- the line played into a buffer with room for every plan
+
+module _ (p : Progress) (l plan : Bytes) where
+  pub play-refused : (number place : ℕ) → refused number place ≡ progressAfter (stepLine p l) → (plan′ : Bytes) → PlayedLine p l plan (refused number place) plan′
+  play-refused number place e plan′ = record { answers = call-refused p l plan number place e .0; left = λ q f. absurd (not-ok f) }
+
+  pub play-written : (q : Progress) → ok q ≡ progressAfter (stepLine p l) → maxPlanBytes ≤ length plan → (at : ℕ) → at ≡ bytesWritten p
+      → (plan′ : Bytes) → plan′ ≡ writeAt at (textOfLine (p .state) l) plan → PlayedLine p l plan (ok q) plan′
+  play-written q e room at place plan′ w =
+      let r = call-written p l plan q e (omega (arith, bytes-short p l plan q e)) at place plan′ w in
+      record { answers = r .0; left = λ x f. r .1 }

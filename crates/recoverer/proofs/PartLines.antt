@@ -8,11 +8,12 @@ use lib.ListN.{length, take, drop, drop-of-length-le}
 use Rattle.model.specs.RecoverCalls.{Progress, LineAnswer, recoverLine, goOn, recoverLines, behind}
 use Rattle.model.specs.Result.{Result, ok, refused}
 use Rattle.model.specs.Text.{Bytes, parts, ended, lineEnd}
+use Rattle.model.proofs.Lists.{not-ok}
 use Rattle.model.proofs.PlanTexts.{parts-more}
 use Rattle.model.proofs.RecoverBuffers.{line-buffer-kept, line-buffer-written}
 use Rattle.text.specs.Places.{IsEnd}
 use Rattle.text.proofs.Parts.{rest-alone, rest-ended}
-use Rattle.recoverer.specs.Parts.{DidLines}
+use Rattle.recoverer.specs.Parts.{PlayedLine, DidLines}
 
 -- the line that ends at `end`
 abbrev pub lineAt : Bytes → ℕ → ℕ → Bytes
@@ -44,7 +45,7 @@ module _ (text : Bytes) (p₀ : Progress) (plan₀ : List ℕ) (p : Progress) (p
   unfolding recoverLines
   last e =
       let s : recoverLines p plan [] ≡ recoverLines p₀ plan₀ (ended (parts lineEnd text)) = rw e at (d .same) in
-      record { answers = ap (λ (x : LineAnswer). x .result) s; left = ap (λ (x : LineAnswer). x .plan) s; rest = rw e at (d .rest); within = d .within }
+      record { answers = ap (λ (x : LineAnswer). x .result) s; left = λ q f. ap (λ (x : LineAnswer). x .plan) s; rest = rw e at (d .rest); within = d .within }
 
   pub done-at-end : length text ≤ at → DidLines p₀ text plan₀ (ok p) at plan
   unfolding parts
@@ -54,8 +55,7 @@ module _ (text : Bytes) (p₀ : Progress) (plan₀ : List ℕ) (p : Progress) (p
     pub done-unended : end ≡ length text → DidLines p₀ text plan₀ (ok p) at plan
     done-unended l = last (rest-alone lineEnd text at end e l)
 
-    module _ (more : end < length text) (r : Result Progress) (plan′ : List ℕ)
-        (is : r ≡ recoverLine p (lineAt text at end) plan .result) (left : plan′ ≡ recoverLine p (lineAt text at end) plan .plan) where
+    module _ (more : end < length text) (r : Result Progress) (plan′ : List ℕ) (did : PlayedLine p (lineAt text at end) plan r plan′) where
       abbrev line : Bytes
       line = lineAt text at end
 
@@ -75,10 +75,10 @@ module _ (text : Bytes) (p₀ : Progress) (plan₀ : List ℕ) (p : Progress) (p
 
       pub done-refused : (number place : ℕ) → r ≡ refused number place → DidLines p₀ text plan₀ (refused number place) (length text) plan′
       done-refused number place f =
-          let s : recoverLine p line plan ≡ recoverLines p₀ plan₀ (ended (parts lineEnd text)) = stops (recoverLine p line plan) later number place (sym is ∙ f) ∙ whole in
+          let s : recoverLine p line plan ≡ recoverLines p₀ plan₀ (ended (parts lineEnd text)) = stops (recoverLine p line plan) later number place (sym (did .answers) ∙ f) ∙ whole in
           record {
-            answers = sym f ∙ is ∙ ap (λ (x : LineAnswer). x .result) s;
-            left = left ∙ ap (λ (x : LineAnswer). x .plan) s;
+            answers = sym f ∙ did .answers ∙ ap (λ (x : LineAnswer). x .result) s;
+            left = λ q g. absurd (not-ok g);
             rest = drop-of-length-le text {i = length text} (omega arith);
             within = omega arith;
           }
@@ -87,8 +87,8 @@ module _ (text : Bytes) (p₀ : Progress) (plan₀ : List ℕ) (p : Progress) (p
       doing-next q f =
           let w = lines-are in
           record {
-            same = rw left (rw (sym is ∙ f) at whole);
+            same = rw (did .left q f) (rw (sym (did .answers) ∙ f) at whole);
             rest = rw (w .2) (rw (w .3) at (d .rest));
             within = omega arith;
-            as-long = ap length left ∙ line-as-long p line plan ∙ d .as-long;
+            as-long = ap length (did .left q f) ∙ line-as-long p line plan ∙ d .as-long;
           }

@@ -16,13 +16,13 @@ use Rattle.model.specs.Text.{Bytes}
 use Rattle.plan_text.specs.Writing.{writeAt}
 use Rattle.plan_text.proofs.Writing.{over-is, put-next, over-length}
 use Rattle.recoverer.specs.Answers.{progressAfter}
-use Rattle.recoverer.specs.Parts.{restAnswer}
+use Rattle.recoverer.specs.Parts.{withRest}
 
-pub rest-short : (r : Result Progress) (rest : Bytes) → length rest < maxLineBytes → r ≡ restAnswer r rest
+pub rest-short : (r : Result Progress) (rest : Bytes) → length rest < maxLineBytes → r ≡ withRest r rest
 rest-short (ok p) rest l = rw (lt-leb maxLineBytes (length rest) l)
 rest-short (refused number place) rest l = refl
 
-pub rest-long : (p : Progress) (rest : Bytes) → maxLineBytes ≤ length rest → progressAfter (stepLine p rest) ≡ restAnswer (ok p) rest
+pub rest-long : (p : Progress) (rest : Bytes) → maxLineBytes ≤ length rest → progressAfter (stepLine p rest) ≡ withRest (ok p) rest
 rest-long p rest l = rw (le-leb maxLineBytes (length rest) l)
 
 -- ---- kept at the front: the first i bytes of the rest are moved

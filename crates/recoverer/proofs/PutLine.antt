@@ -20,6 +20,32 @@ use Rattle.clock_follower.specs.Stretches.{clocksFrom, AreBits, Wrote}
 use Rattle.recoverer.specs.Answers.{clocksIn, textOfLine, CanPut, PutsLine}
 use Rattle.recoverer.proofs.Pins.{ones, are-bits, clocks-from}
 
+-- ---- the rows of bits of a line with n clocks
+
+module _ (l : Bytes) (n : ℕ) (h : HasClocks l n) (tms tdi : Bytes) (tms-is : tms ≡ take n (drop 4 l)) (tdi-is : tdi ≡ drop (5 + n) l) where
+  abbrev cs : List Clock
+  cs = h .clocks
+
+  tms-row : tms ≡ pins tmsOf cs
+  tms-row = tms-is ∙ h .tms
+
+  tdi-row : tdi ≡ pins tdiOf cs
+  tdi-row = tdi-is ∙ h .tdi
+
+  pub rows-as-long : length tdi ≡ length tms
+  rows-as-long = rw (tms-row, tdi-row) (length-pins tdiOf cs ∙ sym (length-pins tmsOf cs))
+
+  pub row-of-bits : AreBits tdi
+  row-of-bits = rw tdi-row (are-bits tdiOf cs)
+
+  pub rows-text : (state : ℕ) → addedText (stateAt state) (clocksFrom tms tdi) ≡ textOfLine state l
+  rows-text state = ap (addedText (stateAt state)) (rw (tms-row, tdi-row) (clocks-from cs) ∙ ap clocksIn (sym (h .good)))
+
+  pub row-of-tms : map isOne tms ≡ map tmsOf (clocksIn (clkLine l))
+  row-of-tms = ap (map isOne) tms-row ∙ ones tmsOf cs ∙ ap (λ (o : Option (List Clock)). map tmsOf (clocksIn o)) (sym (h .good))
+
+-- ---- a line written
+
 module _ (state at : ℕ) (l plan : Bytes) (can : CanPut state at l plan) where
   -- the count of its clocks by its length
   abbrev count : ℕ
@@ -31,33 +57,18 @@ module _ (state at : ℕ) (l plan : Bytes) (can : CanPut state at l plan) where
       has-clocks l count (can .clocks) (can .good) (omega (arith, h .length-is))
 
   module _ (tms tdi : Bytes) (tms-is : tms ≡ take count (drop 4 l)) (tdi-is : tdi ≡ drop (5 + count) l) where
-    abbrev cs : List Clock
-    cs = its-clocks .clocks
-
-    tms-row : tms ≡ pins tmsOf cs
-    tms-row = tms-is ∙ its-clocks .tms
-
-    tdi-row : tdi ≡ pins tdiOf cs
-    tdi-row = tdi-is ∙ its-clocks .tdi
-
-    clocks-are : clocksFrom tms tdi ≡ clocksIn (clkLine l)
-    clocks-are = rw (tms-row, tdi-row) (clocks-from cs) ∙ ap clocksIn (sym (its-clocks .good))
-
     text-is : addedText (stateAt state) (clocksFrom tms tdi) ≡ textOfLine state l
-    text-is = ap (addedText (stateAt state)) clocks-are
+    text-is = rows-text l count its-clocks tms tdi tms-is tdi-is state
 
     pub put-ready : ((state < 16) × (length tdi ≡ length tms) × AreBits tdi) × (at + length (addedText (stateAt state) (clocksFrom tms tdi)) ≤ length plan)
     put-ready = (
-      (can .known, rw (tms-row, tdi-row) (length-pins tdiOf cs ∙ sym (length-pins tmsOf cs)), rw tdi-row (are-bits tdiOf cs)),
+      (can .known, rows-as-long l count its-clocks tms tdi tms-is tdi-is, row-of-bits l count its-clocks tms tdi tms-is tdi-is),
       omega (arith, can .room, ap length text-is),
     )
 
-    tms-of-clocks : map isOne tms ≡ map tmsOf (clocksIn (clkLine l))
-    tms-of-clocks = ap (map isOne) tms-row ∙ ones tmsOf cs ∙ ap (λ (o : Option (List Clock)). map tmsOf (clocksIn o)) (sym (its-clocks .good))
-
     pub put-done : (state′ at′ : ℕ) (plan′ : Bytes) → Wrote state at tms tdi plan state′ at′ plan′ → PutsLine state at l plan state′ at′ plan′
     put-done state′ at′ plan′ w = record {
-      leads = w .leads ∙ ap (λ (ms : List Bool). stateNumber (stateAfter (stateAt state) ms)) tms-of-clocks;
+      leads = w .leads ∙ ap (λ (ms : List Bool). stateNumber (stateAfter (stateAt state) ms)) (row-of-tms l count its-clocks tms tdi tms-is tdi-is);
       behind = w .behind ∙ ap (λ (x : Bytes). at + length x) text-is;
       left = w .left ∙ ap (λ (x : Bytes). writeAt at x plan) text-is;
     }

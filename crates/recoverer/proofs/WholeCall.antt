@@ -1,6 +1,6 @@
 -- The call for a whole text, by what the calls in turn leave in a buffer with room for every plan.
 -- Assumes nothing.
-use mathlib.Core.Path.{_≡_, sym, ap, _∙_}
+use mathlib.Core.Path.{_≡_, refl, sym, ap, _∙_}
 use mathlib.Core.List.{List}
 use Prim.Native.Nat.{ℕ, _-_, _≤_, _<_}
 use native.Mathlib.Omega.{arith}
@@ -23,6 +23,12 @@ use Rattle.recoverer.specs.Whole.{StandsIn}
 
 -- ---- the calls in turn
 
+-- buffers that are alike where nothing was refused
+alike-taken : (r : Result Progress) (f : Progress → Result ℕ) (own own′ : Bytes) → ((q : Progress) → r ≡ ok q → own ≡ own′)
+    → andThen (andThen r f) (λ count. ok (take count own)) ≡ andThen (andThen r f) (λ count. ok (take count own′))
+alike-taken (ok p) f own own′ e = rw (e p refl)
+alike-taken (refused number place) f own own′ e = refl
+
 module _ (t own₀ : Bytes) (few : length t ≤ maxCount) (room : maxPlanBytes ≤ length own₀) (first : Progress) (is : first ≡ atFirst) (r : Result Progress) (at : ℕ)
     (own : Bytes) (d : DidLines first t own₀ r at own) (as-long : length own ≡ length own₀) where
   abbrev rest : Bytes
@@ -31,7 +37,7 @@ module _ (t own₀ : Bytes) (few : length t ≤ maxCount) (room : maxPlanBytes �
   stands : StandsIn t (andThen r (λ p. recoverEnd p rest)) own
   unfolding recoveryEnd
   stands = record {
-    its-text = rw (d .answers, d .left, is) (turns-end t own₀ few room);
+    its-text = alike-taken r (λ p. recoverEnd p rest) own (recoverLines first own₀ (ended (parts lineEnd t)) .plan) (d .left) ∙ rw (d .answers, is) (turns-end t own₀ few room);
     within = λ count e.
         let q : andThen (recoverLines atFirst own₀ (ended (parts lineEnd t)) .result) (λ p. recoverEnd p rest) ≡ ok count = rw (d .answers, is) at e in
         omega (arith, as-long, recover-buffer-written t own₀ count (sym (line-by-line t own₀ few room .result) ∙ q) .enough);

@@ -21,9 +21,9 @@ abbrev pub stepped : Stepped → Result Progress
 stepped (To p) = ok (progressFor p)
 stepped (NoStep number place) = refused number place
 
-abbrev pub ended : Ended → Result ℕ
-ended (Count n) = ok n
-ended (NoEnd number place) = refused number place
+abbrev pub endAnswer : Ended → Result ℕ
+endAnswer (Count n) = ok n
+endAnswer (NoEnd number place) = refused number place
 
 abbrev pub progressAfter : Result Step → Result Progress
 progressAfter r = andThen r (λ s. ok (s .after))

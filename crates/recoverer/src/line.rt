@@ -13,12 +13,9 @@ use model::refusal;
 ghost use mathlib.Core.Path.{_≡_};
 ghost use mathlib.Core.Bool.{cond};
 ghost use Prim.Native.Nat.{_+_, _≤_};
-ghost use lib.ListN.{length};
-ghost use Rattle.model.specs.ClockText.{clkLine};
 ghost use Rattle.model.specs.RecoverCalls.{atFirst, underWay, canGoOn, bytesWritten, stepLine, recoverLine, recoverEnd};
-ghost use Rattle.clock_line.specs.Line.{clockCount};
 ghost use Rattle.clock_follower.specs.Counts.{progressFor};
-ghost use Rattle.recoverer.specs.Answers.{stepped, ended, progressAfter, PutsLine, CanPut};
+ghost use Rattle.recoverer.specs.Answers.{stepped, endAnswer, progressAfter, PutsLine, CanPut};
 
 const IDLE: u8 = 1;
 
@@ -63,7 +60,7 @@ fn under_way(state: u8) -> bool
 }
 
 // Whether a line can follow: what no call leaves is refused.
-fn can_go_on(p: Progress) -> bool
+pub fn can_go_on(p: Progress) -> bool
     ensures { λ r. ⌜ r ≡ canGoOn (progressFor p) ⌝ }
 {
     if p.lines == MAX_LINES {
@@ -88,7 +85,7 @@ fn can_go_on(p: Progress) -> bool
 }
 
 // The plan's bytes that stand in the buffer.
-fn bytes_written(p: Progress) -> usize
+pub fn bytes_written(p: Progress) -> usize
     requires { ⌜ cond (underWay (p .state)) 1 0 ≤ p .bytes ⌝ }
     ensures { λ r. ⌜ r ≡ bytesWritten (progressFor p) ⌝ }
 {
@@ -99,15 +96,15 @@ fn bytes_written(p: Progress) -> usize
     }
 }
 
-// Where a line with so many clocks leads, 0 for one that has not the form of a `clk` line; nothing is written.
-fn check_counted(p: Progress, line: &[u8], clocks: usize) -> Stepped
-    requires { ⌜ clocks ≡ clockCount (clkLine (now line)) ⌝ }
+// Where a line leads; nothing is written.
+pub fn check_line(p: Progress, line: &[u8]) -> Stepped
     ensures { λ r. ⌜ stepped r ≡ progressAfter (stepLine (progressFor p) (now (line .entry))) ⌝ }
 {
     if !can_go_on(p) {
         return Stepped::Refused(refusal::CLOCK_LINE, p.lines);
     }
     let place = p.lines + 1;
+    let clocks = count_clocks(line);
     if clocks == 0 {
         return Stepped::Refused(refusal::CLOCK_LINE, place);
     }
@@ -123,16 +120,8 @@ fn check_counted(p: Progress, line: &[u8], clocks: usize) -> Stepped
     }
 }
 
-// Where a line leads; nothing is written.
-pub fn check_line(p: Progress, line: &[u8]) -> Stepped
-    ensures { λ r. ⌜ stepped r ≡ progressAfter (stepLine (progressFor p) (now (line .entry))) ⌝ }
-{
-    let clocks = count_clocks(line);
-    check_counted(p, line, clocks)
-}
-
 // What a line of good form adds to the plan's text.
-pub fn put_line(pen: Pen, line: &[u8], plan: &mut [u8]) -> Pen
+fn put_line(pen: Pen, line: &[u8], plan: &mut [u8]) -> Pen
     requires { ⌜ CanPut (pen .state) (pen .at) (now line) (now plan) ⌝ }
     ensures { λ r. ⌜ PutsLine (pen .state) (pen .at) (now (line .entry)) (now (plan .entry)) (r .state) (r .at) (now (plan .exit)) ⌝ }
 {
@@ -140,13 +129,13 @@ pub fn put_line(pen: Pen, line: &[u8], plan: &mut [u8]) -> Pen
     write(pen, tms_of(line, n), tdi_of(line, n), plan)
 }
 
-// The call for a line whose clocks are counted. A line that adds nothing to the plan is not looked at again.
-pub fn recover_counted(p: Progress, line: &[u8], clocks: usize, plan: &mut [u8]) -> Stepped
-    requires { ⌜ clocks ≡ clockCount (clkLine (now line)) ⌝ }
+// The call for a line, without its byte 10. It is followed before anything is written, so that a refusal leaves the plan as it was;
+// a line that adds nothing to the plan is not looked at again.
+pub fn recover_line(p: Progress, line: &[u8], plan: &mut [u8]) -> Stepped
     ensures { λ r. ⌜ stepped r ≡ recoverLine (progressFor p) (now (line .entry)) (now (plan .entry)) .result ⌝ }
     ensures { λ r. ⌜ now (plan .exit) ≡ recoverLine (progressFor p) (now (line .entry)) (now (plan .entry)) .plan ⌝ }
 {
-    let checked = check_counted(p, line, clocks);
+    let checked = check_line(p, line);
     match checked {
         Stepped::Refused(number, place) => Stepped::Refused(number, place),
         Stepped::To(q) => {
@@ -163,18 +152,9 @@ pub fn recover_counted(p: Progress, line: &[u8], clocks: usize, plan: &mut [u8])
     }
 }
 
-// The call for a line, without its byte 10.
-pub fn recover_line(p: Progress, line: &[u8], plan: &mut [u8]) -> Stepped
-    ensures { λ r. ⌜ stepped r ≡ recoverLine (progressFor p) (now (line .entry)) (now (plan .entry)) .result ⌝ }
-    ensures { λ r. ⌜ now (plan .exit) ≡ recoverLine (progressFor p) (now (line .entry)) (now (plan .entry)) .plan ⌝ }
-{
-    let clocks = count_clocks(line);
-    recover_counted(p, line, clocks, plan)
-}
-
 // The call for the end of the text, with the bytes behind its last byte 10.
 pub fn recover_end(p: Progress, rest: &[u8]) -> Ended
-    ensures { λ r. ⌜ ended r ≡ recoverEnd (progressFor p) (now (rest .entry)) ⌝ }
+    ensures { λ r. ⌜ endAnswer r ≡ recoverEnd (progressFor p) (now (rest .entry)) ⌝ }
 {
     if !can_go_on(p) {
         return Ended::Refused(refusal::CLOCK_LINE, p.lines);

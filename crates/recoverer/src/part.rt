@@ -1,17 +1,14 @@
-// A text that comes in parts: the lines that have ended, and the rest, which is kept at the front of the caller's buffer.
+// A text that comes in parts: the lines that have ended are followed, the rest is kept at the front of the caller's buffer.
 use crate::line::Stepped;
 use crate::line::check_line;
-use crate::line::recover_counted;
-use clock_follower::Progress;
-use clock_line::find_line;
+use crate::lines::recover_lines;
 use model::limits::MAX_LINE_BYTES;
 ghost use mathlib.Core.Path.{_≡_};
 ghost use Prim.Native.Nat.{_-_, _≤_};
 ghost use lib.ListN.{length, drop};
 ghost use Rattle.model.specs.Calls.{writeOver};
-ghost use Rattle.clock_follower.specs.Counts.{progressFor};
 ghost use Rattle.recoverer.specs.Answers.{stepped};
-ghost use Rattle.recoverer.specs.Parts.{DidLines, restAnswer, DidPart};
+ghost use Rattle.recoverer.specs.Parts.{withRest, DidPart};
 
 // The answer so far, and how many bytes are held.
 pub struct Recovery {
@@ -19,50 +16,9 @@ pub struct Recovery {
     pub held: usize,
 }
 
-// The answer after the lines that have ended, and where the rest starts.
-pub struct Lines {
-    pub answer: Stepped,
-    pub at: usize,
-}
-
-// The call for each line that has ended, up to a refusal, behind which nothing is held.
-pub fn recover_lines(first: Progress, text: &[u8], plan: &mut [u8]) -> Lines
-    ensures { λ r. ⌜ DidLines (progressFor first) (now (text .entry)) (now (plan .entry)) (stepped (r .answer)) (r .at) (now (plan .exit)) ⌝ }
-{
-    let mut p = first;
-    let mut at: usize = 0;
-    let mut guess: usize = 0;
-    while at < text.len() {
-        let found = find_line(text, at, guess);
-        let end = found.end;
-        if end == text.len() {
-            return Lines {
-                answer: Stepped::To(p),
-                at,
-            };
-        }
-        let done = recover_counted(p, &text[at..end], found.clocks, plan);
-        match done {
-            Stepped::To(q) => p = q,
-            Stepped::Refused(number, place) => {
-                return Lines {
-                    answer: Stepped::Refused(number, place),
-                    at: text.len(),
-                };
-            }
-        }
-        guess = end - at;
-        at = end + 1;
-    }
-    Lines {
-        answer: Stepped::To(p),
-        at,
-    }
-}
-
 // A rest that is too long for a line is refused before its end comes.
 fn unless_long(answer: Stepped, rest: &[u8]) -> Stepped
-    ensures { λ r. ⌜ stepped r ≡ restAnswer (stepped answer) (now (rest .entry)) ⌝ }
+    ensures { λ r. ⌜ stepped r ≡ withRest (stepped answer) (now (rest .entry)) ⌝ }
 {
     if rest.len() < MAX_LINE_BYTES {
         return answer;
@@ -88,8 +44,10 @@ fn move_to_front(text: &mut [u8], at: usize) -> usize
     n
 }
 
-// The next part of a text, behind the bytes held so far: what is held of it then stands at the front.
+// The next part of a text, behind the bytes held so far: what is held of it then stands at the front. The plan buffer has room for
+// every plan, and is free after a refusal.
 pub fn recover_part(answer: Stepped, text: &mut [u8], plan: &mut [u8]) -> Recovery
+    requires { ⌜ 64080 ≤ length (now plan) ⌝ }
     ensures { λ r. ⌜ DidPart (stepped answer) (now (text .entry)) (now (plan .entry)) (stepped (r .answer)) (r .held) (now (text .exit)) (now (plan .exit)) ⌝ }
 {
     match answer {

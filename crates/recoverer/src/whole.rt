@@ -1,9 +1,9 @@
-// A whole text in memory: the calls for its lines and its end write into a buffer of ours, so that a refusal leaves the lent one as it was.
+// A whole text in memory: its lines are written into a buffer of ours, so that a refusal leaves the lent one as it was.
 use crate::line::Ended;
 use crate::line::Stepped;
 use crate::line::at_first;
 use crate::line::recover_end;
-use crate::part::recover_lines;
+use crate::lines::recover_lines;
 use model::limits::MAX_PLAN_BYTES;
 use model::refusal;
 use plan_text::put;
@@ -12,13 +12,13 @@ ghost use Prim.Native.Nat.{_≤_};
 ghost use lib.ListN.{length};
 ghost use Rattle.model.specs.Limits.{maxPlanBytes};
 ghost use Rattle.model.specs.RecoverCalls.{recoverText};
-ghost use Rattle.recoverer.specs.Answers.{ended};
+ghost use Rattle.recoverer.specs.Answers.{endAnswer};
 ghost use Rattle.recoverer.specs.Whole.{StandsIn};
 
 // The calls in turn, into a buffer with room for every plan: the plan's bytes.
 fn recover_in_turn(text: &[u8], own: &mut [u8]) -> Ended
     requires { ⌜ maxPlanBytes ≤ length (now own) ⌝ }
-    ensures { λ r. ⌜ StandsIn (now (text .entry)) (ended r) (now (own .exit)) ⌝ }
+    ensures { λ r. ⌜ StandsIn (now (text .entry)) (endAnswer r) (now (own .exit)) ⌝ }
 {
     let lines = recover_lines(at_first(), text, own);
     let at = lines.at;
@@ -31,7 +31,7 @@ fn recover_in_turn(text: &[u8], own: &mut [u8]) -> Ended
 
 // The call for a whole text: the plan's bytes, at the front of the buffer.
 pub fn recover_text(text: &[u8], plan: &mut [u8]) -> Ended
-    ensures { λ r. ⌜ ended r ≡ recoverText (now (text .entry)) (now (plan .entry)) .result ⌝ }
+    ensures { λ r. ⌜ endAnswer r ≡ recoverText (now (text .entry)) (now (plan .entry)) .result ⌝ }
     ensures { λ r. ⌜ now (plan .exit) ≡ recoverText (now (text .entry)) (now (plan .entry)) .plan ⌝ }
 {
     let mut own = [0u8; MAX_PLAN_BYTES];

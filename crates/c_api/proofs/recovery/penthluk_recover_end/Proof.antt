@@ -3,7 +3,7 @@
 use mathlib.Core.Path.{_∙_}
 use borrow.Author.Needs.{needs}
 use Rattle.c_api.proofs.Counted.{by-answer}
-use Rattle.recoverer.specs.Answers.{ended}
+use Rattle.recoverer.specs.Answers.{endAnswer}
 use Rattle.c_api.proofs.recovery.penthluk_recover_end.Statement.{statement}
 use Rattle.c_api.proofs.recovery.penthluk_recover_end.Tie as tie
 
@@ -20,10 +20,10 @@ enum-known-ended-2 : tie.Need-enum-known-ended-2
 enum-known-ended-2 c = search needs
 
 returns : tie.Need-returns
-returns c = by-answer ended _ _ (c .before .before .before .before .recover-end .ensures ∙ c .before .before .before .before .before .progress-of .ensures .end _) _ (c .before .before .ended .given .1)
+returns c = by-answer endAnswer _ _ (c .before .before .before .before .recover-end .ensures ∙ c .before .before .before .before .before .progress-of .ensures .end _) _ (c .before .before .ended .given .1)
 
 returns-2 : tie.Need-returns-2
-returns-2 c = by-answer ended _ _ (c .before .before .before .before .recover-end .ensures ∙ c .before .before .before .before .before .progress-of .ensures .end _) _ (c .before .before .ended2 .given .1)
+returns-2 c = by-answer endAnswer _ _ (c .before .before .before .before .recover-end .ensures ∙ c .before .before .before .before .before .progress-of .ensures .end _) _ (c .before .before .ended2 .given .1)
 
 pub penthluk-recover-end-spec : {M : Type 1} → statement M
 penthluk-recover-end-spec =

@@ -6,7 +6,7 @@ use borrow.Author.Needs.{needs}
 use Rattle.program_text.proofs.RecoveryShown.{shown-end-refused, shown-plan, plan-fits, stands}
 use Rattle.program_text.proofs.Front.{printed-to}
 use Rattle.program_text.proofs.Shown.{at-front}
-use Rattle.recoverer.specs.Answers.{ended}
+use Rattle.recoverer.specs.Answers.{endAnswer}
 use Rattle.clock_follower.specs.Counts.{progressFor}
 use Rattle.program_text.proofs.recovery.print_end.Statement.{statement}
 use Rattle.program_text.proofs.recovery.print_end.Tie as tie
@@ -27,10 +27,10 @@ same-length : tie.Need-same-length
 same-length c = search needs
 
 returns : tie.Need-returns
-returns c = printed-to _ _ (at-front _ _ (shown-end-refused (progressFor (c .before .before .before .before .before .before .before .before .before .before .args .p)) (c .before .before .before .before .before .before .before .before .before .before .args .rest .now) (c .before .before .before .before .before .before .before .before .before .before .args .plan .now) _ _ (sym (ap ended (c .before .before .before .before .before .ended .given .1)) ∙ c .before .before .before .before .before .before .before .recover-end .ensures)) (c .before .before .put-refusal .ensures))
+returns c = printed-to _ _ (at-front _ _ (shown-end-refused (progressFor (c .before .before .before .before .before .before .before .before .before .before .args .p)) (c .before .before .before .before .before .before .before .before .before .before .args .rest .now) (c .before .before .before .before .before .before .before .before .before .before .args .plan .now) _ _ (sym (ap endAnswer (c .before .before .before .before .before .ended .given .1)) ∙ c .before .before .before .before .before .before .before .recover-end .ensures)) (c .before .before .put-refusal .ensures))
 
 returns-2 : tie.Need-returns-2
-returns-2 c = let p = progressFor (c .before .before .before .before .before .before .args .p) in let e = sym (ap ended (c .before .ended2 .given .1)) ∙ c .before .before .before .recover-end .ensures in printed-to _ _ (stands _ _ _ (shown-plan p (c .before .before .before .before .before .before .args .rest .now) (c .before .before .before .before .before .before .args .plan .now) _ e) (omega (arith, plan-fits p (c .before .before .before .before .before .before .args .rest .now) (c .before .before .before .before .before .before .args .plan .now) _ e, c .before .before .before .before .before .before .pre)))
+returns-2 c = let p = progressFor (c .before .before .before .before .before .before .args .p) in let e = sym (ap endAnswer (c .before .ended2 .given .1)) ∙ c .before .before .before .recover-end .ensures in printed-to _ _ (stands _ _ _ (shown-plan p (c .before .before .before .before .before .before .args .rest .now) (c .before .before .before .before .before .before .args .plan .now) _ e) (omega (arith, plan-fits p (c .before .before .before .before .before .before .args .rest .now) (c .before .before .before .before .before .before .args .plan .now) _ e, c .before .before .before .before .before .before .pre)))
 
 pub print-end-spec : {M : Type 1} → statement M
 print-end-spec =

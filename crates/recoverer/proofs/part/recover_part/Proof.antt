@@ -48,7 +48,13 @@ same-length-2 : tie.Need-same-length-2
 same-length-2 c = search needs
 
 returns-2 : tie.Need-returns-2
-returns-2 c = from-answer _ _ _ _ _ _ _ _ (ap stepped (c .before .before .before .before .before .before .before .before .before .before .before .before .answer2 .given .1)) (part-stopped (progressFor (c .before .before .before .before .before .before .before .before .before .before .before .before .answer2 .given .0 .0)) (c .before .before .before .before .before .before .before .before .before .before .before .before .before .before .before .before .args .text .now) (c .before .before .before .before .before .before .before .before .before .before .before .before .before .before .before .before .args .plan .now) _ _ _ (c .before .before .before .before .before .before .before .before .recover-lines .ensures) _ (c .before .before .before .unless-long .ensures) _ _ (ap stepped (c .before .now .given .1)))
+returns-2 c =
+    let u = c .before .before .before in
+    let l = u .before .before .before .before .before in
+    let m = l .before .before .before .before in
+    let a = m .before .before .before .before .args in
+    from-answer _ _ _ _ _ _ _ _ (ap stepped (m .answer2 .given .1))
+    (part-stopped (progressFor (m .answer2 .given .0 .0)) (a .text .now) (a .plan .now) _ _ _ (l .recover-lines .ensures) (same-length-2 c) _ (u .unless-long .ensures) _ _ (ap stepped (c .before .now .given .1)))
 
 same-length-3 : tie.Need-same-length-3
 same-length-3 c = search needs
@@ -57,7 +63,15 @@ same-length-4 : tie.Need-same-length-4
 same-length-4 c = search needs
 
 returns-3 : tie.Need-returns-3
-returns-3 c = from-answer _ _ _ _ _ _ _ _ (ap stepped (c .before .before .before .before .before .before .before .before .before .before .before .before .before .before .before .before .answer2 .given .1)) (part-held (progressFor (c .before .before .before .before .before .before .before .before .before .before .before .before .before .before .before .before .answer2 .given .0 .0)) (c .before .before .before .before .before .before .before .before .before .before .before .before .before .before .before .before .before .before .before .before .args .text .now) (c .before .before .before .before .before .before .before .before .before .before .before .before .before .before .before .before .before .before .before .before .args .plan .now) _ _ _ (c .before .before .before .before .before .before .before .before .before .before .before .before .recover-lines .ensures) _ (c .before .before .before .before .before .before .before .unless-long .ensures) (progressFor (c .before .before .before .before .before .now2 .given .0 .0)) (ap stepped (c .before .before .before .before .before .now2 .given .1)) _ (c .before .before .move-to-front .ensures .0) _ (c .before .before .move-to-front .ensures .1))
+returns-3 c =
+    let f = c .before .before in
+    let k = f .before .before .before in
+    let u = k .before .before in
+    let l = u .before .before .before .before .before in
+    let m = l .before .before .before .before in
+    let a = m .before .before .before .before .args in
+    from-answer _ _ _ _ _ _ _ _ (ap stepped (m .answer2 .given .1))
+    (part-held (progressFor (m .answer2 .given .0 .0)) (a .text .now) (a .plan .now) _ _ _ (l .recover-lines .ensures) (same-length-4 c) _ (u .unless-long .ensures) (progressFor (k .now2 .given .0 .0)) (ap stepped (k .now2 .given .1)) _ (f .move-to-front .ensures .0) _ (f .move-to-front .ensures .1))
 
 pub recover-part-spec : {M : Type 1} → statement M
 recover-part-spec =

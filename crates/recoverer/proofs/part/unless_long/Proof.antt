@@ -5,7 +5,7 @@ use borrow.Author.Needs.{needs}
 use Rattle.recoverer.proofs.PartRest.{rest-short, rest-long}
 use Rattle.model.specs.Result.{Result}
 use Rattle.model.specs.RecoverCalls.{Progress}
-use Rattle.recoverer.specs.Parts.{restAnswer}
+use Rattle.recoverer.specs.Parts.{withRest}
 use Rattle.recoverer.specs.Answers.{stepped}
 use Rattle.clock_follower.specs.Counts.{progressFor}
 use Rattle.recoverer.proofs.part.unless_long.Statement.{statement}
@@ -24,10 +24,10 @@ enum-known-answer-2 : tie.Need-enum-known-answer-2
 enum-known-answer-2 c = search needs
 
 returns-2 : tie.Need-returns-2
-returns-2 c = c .check-line .ensures ∙ rest-long (progressFor (c .before .before .answer .given .0 .0)) _ (c .before .before .before .before .if1 .left) ∙ ap (λ (r : Result Progress). restAnswer r (c .before .before .before .before .before .before .args .rest .now)) (sym (ap stepped (c .before .before .answer .given .1)))
+returns-2 c = c .check-line .ensures ∙ rest-long (progressFor (c .before .before .answer .given .0 .0)) _ (c .before .before .before .before .if1 .left) ∙ ap (λ (r : Result Progress). withRest r (c .before .before .before .before .before .before .args .rest .now)) (sym (ap stepped (c .before .before .answer .given .1)))
 
 returns-3 : tie.Need-returns-3
-returns-3 c = ap (λ (r : Result Progress). restAnswer r (c .before .before .before .before .before .args .rest .now)) (sym (ap stepped (c .before .answer2 .given .1)))
+returns-3 c = ap (λ (r : Result Progress). withRest r (c .before .before .before .before .before .args .rest .now)) (sym (ap stepped (c .before .answer2 .given .1)))
 
 pub unless-long-spec : {M : Type 1} → statement M
 unless-long-spec =

@@ -5,7 +5,7 @@ use native.Mathlib.Omega.{arith}
 use lib.Seq.{length-take-le}
 use borrow.Author.Needs.{needs}
 use Rattle.recoverer.proofs.WholeCall.{whole-refused, whole-short, whole-written}
-use Rattle.recoverer.specs.Answers.{ended}
+use Rattle.recoverer.specs.Answers.{endAnswer}
 use Rattle.recoverer.proofs.whole.recover_text.Statement.{statement}
 use Rattle.recoverer.proofs.whole.recover_text.Tie as tie
 
@@ -22,10 +22,10 @@ enum-known-recovered-2 : tie.Need-enum-known-recovered-2
 enum-known-recovered-2 c = search needs
 
 returns : tie.Need-returns
-returns c = whole-short _ _ _ _ (c .before .before .before .before .before .recover-in-turn .ensures) _ (ap ended (c .before .before .recovered2 .given .1)) (c .if1 .taken)
+returns c = whole-short _ _ _ _ (c .before .before .before .before .before .recover-in-turn .ensures) _ (ap endAnswer (c .before .before .recovered2 .given .1)) (c .if1 .taken)
 
 array-share-prefix-own : tie.Need-array-share-prefix-own
-array-share-prefix-own c = c .before .before .before .before .before .before .recover-in-turn .ensures .within _ (ap ended (c .before .before .before .recovered2 .given .1))
+array-share-prefix-own c = c .before .before .before .before .before .before .recover-in-turn .ensures .within _ (ap endAnswer (c .before .before .before .recovered2 .given .1))
 
 slice-aggregate-put : tie.Need-slice-aggregate-put
 slice-aggregate-put c = sym (length-take-le _ _ (array-share-prefix-own (c .before)))
@@ -34,13 +34,13 @@ put-requires : tie.Need-put-requires
 put-requires c κs = omega (arith, slice-aggregate-put c, c .before .before .if1 .left)
 
 returns-2 : tie.Need-returns-2
-returns-2 c = whole-refused _ _ _ _ (c .before .before .before .before .recover-in-turn .ensures) _ _ (ap ended (c .before .recovered .given .1))
+returns-2 c = whole-refused _ _ _ _ (c .before .before .before .before .recover-in-turn .ensures) _ _ (ap endAnswer (c .before .recovered .given .1))
 
 same-length : tie.Need-same-length
 same-length c = search needs
 
 returns-3 : tie.Need-returns-3
-returns-3 c = whole-written _ _ _ _ (c .before .before .before .before .before .before .before .before .before .before .recover-in-turn .ensures) _ (ap ended (c .before .before .before .before .before .before .before .recovered2 .given .1)) (c .before .before .before .before .before .if1 .left) _ (c .before .before .put .ensures .1)
+returns-3 c = whole-written _ _ _ _ (c .before .before .before .before .before .before .before .before .before .before .recover-in-turn .ensures) _ (ap endAnswer (c .before .before .before .before .before .before .before .recovered2 .given .1)) (c .before .before .before .before .before .if1 .left) _ (c .before .before .put .ensures .1)
 
 pub recover-text-spec : {M : Type 1} → statement M
 recover-text-spec =
