@@ -122,14 +122,16 @@ printed-plan t plan e = ap (printed writePlan) e
 
 pub marked-holds : MarkedAsPlayed
 unfolding clocksOf
-marked-holds n t net plan clocks pass a e j m first holds fed s bs i =
-    let p = plays-the-same t plan e in
-    let same : p .0 ≡ clocks = some-same (p .0) clocks (sym (p .1) ∙ j) in
+marked-holds n t h fed =
+    let net = h .net in
+    let plan = h .plan in
+    let p = plays-the-same t plan (h .given-back) in
+    let same : p .0 ≡ h .clocks = some-same (p .0) (h .clocks) (sym (p .1) ∙ h .joined) in
     let own = p .2 .captures fed in
-    let reads = reads-back t plan e in
-    let u = played-as-marked n (writePlan plan) net plan (planClocks plan) pass a reads
-    (ap (λ (r : Result Plan). andThen r (λ q. ok (planClocks q))) reads) (ap (mark n) (sym (printed-plan t plan e)) ∙ m) first holds (own .0) in
-    ap (λ (x : List Clock). heldAt (fromIdle net first fed x .registers) s) (sym same)
-    ∙ ap (λ (rs : Registers). heldAt rs s) (p .2 .plays net first fed (own .0) (own .1) .registers)
-    ∙ ap (λ (x : List Clock). heldAt (fromIdle net first (own .0) x .registers) s) (sym (take-length (planClocks plan)))
-    ∙ u .written s bs i
+    let reads = reads-back t plan (h .given-back) in
+    let u = played-as-marked n (writePlan plan) net plan (planClocks plan) (h .pass) (h .accepted) reads
+    (ap (λ (r : Result Plan). andThen r (λ q. ok (planClocks q))) reads) (ap (mark n) (sym (printed-plan t plan (h .given-back))) ∙ h .passes) (h .first) (h .holds) (own .0) in
+    ap (λ (x : List Clock). heldAt (fromIdle net (h .first) fed x .registers) (h .segmentNumber)) (sym same)
+    ∙ ap (λ (rs : Registers). heldAt rs (h .segmentNumber)) (p .2 .plays net (h .first) fed (own .0) (own .1) .registers)
+    ∙ ap (λ (x : List Clock). heldAt (fromIdle net (h .first) (own .0) x .registers) (h .segmentNumber)) (sym (take-length (planClocks plan)))
+    ∙ u .written (h .segmentNumber) (h .bits) (h .target)

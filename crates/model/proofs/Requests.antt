@@ -1,8 +1,9 @@
 -- Every promise of document 02's changes, with its proof.
 -- Assumes nothing.
-use Rattle.model.specs.Drawn.{A, AllPrinted, resetRows, AllRecovered, recoverRows}
+use Rattle.model.specs.Drawn.{A, planA, AllPrinted, resetRows, AllRecovered, recoverRows}
+use Rattle.model.specs.Printed.{clockProgram}
 use Rattle.model.specs.RecoverDemands.{RecoverBufferKept, LineBufferKept, RecoverBufferWritten, LineBufferWritten, RecoverListed, LeftGoesOn, FirstGoesOn, LineByLine, InParts, HeldShort}
-use Rattle.model.specs.Recovered.{RoundTrip, ClkLineExact, RecoverExact, RefusedAtFirst, PlanOr19, ReallyPlayed, MarkedAsPlayed}
+use Rattle.model.specs.Recovered.{RoundTrip, ClkLineExact, RecoverExact, RefusedAtFirst, PlanOr19, ReallyPlayed, PlayedAndMarked, MarkedAsPlayed}
 use Rattle.model.specs.Resets.{ResetsRead, ResetStarts, OldForm, ReadAsBefore, AcceptedAsBefore, ResetRefused}
 use Rattle.model.specs.Text.{bytes}
 use Rattle.model.proofs.ClockLines.{clk-line-exact}
@@ -12,6 +13,7 @@ use Rattle.model.proofs.InParts.{in-parts, held-short}
 use Rattle.model.proofs.LineByLine.{line-by-line}
 use Rattle.model.proofs.OldForm.{read-as-before, accepted-as-before, old-form-met}
 use Rattle.model.proofs.PlanOr19.{every-answer}
+use Rattle.model.proofs.PlayedMet.{played-and-marked-met}
 use Rattle.model.proofs.ReallyPlayed.{plays-the-same, marked-holds}
 use Rattle.model.proofs.RecoverBuffers.{recover-buffer-kept, recover-buffer-written, line-buffer-kept, line-buffer-written, left-goes-on, first-goes-on}
 use Rattle.model.proofs.RecoverPlaces.{recover-listed}
@@ -66,6 +68,10 @@ really-played = plays-the-same
 
 pub marked-as-played : MarkedAsPlayed
 marked-as-played = marked-holds
+
+-- the hypotheses of `marked-as-played` can be met
+pub marked-as-played-of-A : PlayedAndMarked (bytes A) (clockProgram (bytes planA))
+marked-as-played-of-A = played-and-marked-met
 
 pub recover-rows : AllRecovered recoverRows
 recover-rows = recovered-rows-hold

@@ -166,9 +166,22 @@ abbrev pub ReallyPlayed : Type 0
 ReallyPlayed = (t : Bytes) (plan : Plan) → recover t ≡ ok plan
     → (clocks : List Clock) × (joinedClocks (parts lineEnd t) ≡ some clocks) × PlayedAs clocks plan
 
+-- an accepted network text with a write target, a text of clocks whose plan passes the marker on it, and registers that the frame can start from
+pub record PlayedAndMarked (n t : Bytes) : Type 0 where
+  pub net : Network
+  pub plan : Plan
+  pub clocks : List Clock
+  pub pass : Pass
+  pub first : Registers
+  pub segmentNumber : ℕ
+  pub bits : List Bool
+  pub accepted : readNetwork n ≡ ok net
+  pub given-back : recover t ≡ ok plan
+  pub joined : joinedClocks (parts lineEnd t) ≡ some clocks
+  pub passes : mark n (recoverProgram t) ≡ ok pass
+  pub holds : Holds (net .nodes) (net .start) first
+  pub target : List·Memᴰ (write segmentNumber bits) (net .targets)
+
 -- a plan given back that passes the marker was played so that every write target holds its bits after the text's clocks
 abbrev pub MarkedAsPlayed : Type 0
-MarkedAsPlayed = (n t : Bytes) (net : Network) (plan : Plan) (clocks : List Clock) (pass : Pass)
-    → readNetwork n ≡ ok net → recover t ≡ ok plan → joinedClocks (parts lineEnd t) ≡ some clocks → mark n (recoverProgram t) ≡ ok pass
-    → (first : Registers) → Holds (net .nodes) (net .start) first → (fed : Captures)
-    → (s : ℕ) (bs : List Bool) → List·Memᴰ (write s bs) (net .targets) → heldAt (fromIdle net first fed clocks .registers) s ≡ bs
+MarkedAsPlayed = (n t : Bytes) (p : PlayedAndMarked n t) (fed : Captures) → heldAt (fromIdle (p .net) (p .first) fed (p .clocks) .registers) (p .segmentNumber) ≡ p .bits
