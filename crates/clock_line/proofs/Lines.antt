@@ -15,7 +15,7 @@ use Rattle.model.specs.Limits.{maxLineBytes}
 use Rattle.model.specs.Printed.{pins}
 use Rattle.model.specs.Tap.{Clock, clk, bitByte}
 use Rattle.model.specs.Text.{Bytes, bytes, tab, same}
-use Rattle.model.proofs.ClockLines.{tmsOf, tdiOf, clkText, length-clk, length-pins, pins-map, ClkText, clk-written, clk-text}
+use Rattle.model.proofs.ClockLines.{tmsOf, tdiOf, clkText, length-clk, length-pins, pins-map, clk-written, clk-text}
 use Rattle.model.proofs.Lists.{true-false}
 use Rattle.model.proofs.PlanTexts.{same-is}
 use Rattle.plan_text.specs.Lines.{bitRun}

@@ -16,7 +16,7 @@ use Rattle.model.specs.NetworkText.{field}
 use Rattle.model.specs.PlanText.{scanBits}
 use Rattle.model.specs.Printed.{fieldsOf, line, pins}
 use Rattle.model.specs.Recovered.{ClkLineOf, ClkLineExact}
-use Rattle.model.specs.Tap.{Clock, clk, bitByte}
+use Rattle.model.specs.Tap.{Clock, bitByte}
 use Rattle.model.specs.Text.{Bytes, bytes, tab, lineEnd, parts, fields, same}
 use Rattle.model.proofs.LineForms.{bound, if-some}
 use Rattle.model.proofs.Lists.{eqb-is, true-false, and-parts, none-some, some-same}

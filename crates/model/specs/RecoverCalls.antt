@@ -1,8 +1,8 @@
 -- The calls that bring clocks back into a plan (document 02, Change 2): one for a line and one for the end of the text, which a caller makes
 -- in turn, and one for a whole text in memory; then what a program does with a text that comes in parts.
 -- Assumes nothing.
-use mathlib.Core.Bool.{Bool, cond, not, _&&_, _||_}
-use mathlib.Core.Option.{Option, none, some}
+use mathlib.Core.Bool.{Bool, cond, not, _&&_}
+use mathlib.Core.Option.{Option, some}
 use mathlib.Core.List.{List, [], _∷_, _++_}
 use Prim.Native.Nat.{ℕ, suc, _-_}
 use lib.ListN.{length, take, drop}
