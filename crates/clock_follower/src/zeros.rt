@@ -1,6 +1,7 @@
 // Runs of zeros. A run is often shorter than 8 bytes, as bits are sent in bytes: these are looked at first, one by one. Then as
 // `text::runs` finds runs, 32 bytes at a time; the byte is fixed here, so that the compiler compares with it alone.
 ghost use mathlib.Core.Path.{_≡_};
+ghost use mathlib.Core.Bool.{true};
 ghost use Prim.Native.Nat.{_+_, _≤_, _<_};
 ghost use lib.ListN.{length, drop};
 ghost use lib.Dec.{leb};
@@ -44,12 +45,29 @@ fn zero_blocks_end(s: &[u8], at: usize) -> usize
     i
 }
 
-// The same by blocks, then byte by byte.
+// Whether the run from a place on, which has come to i, fewer than 32 bytes before the end, goes up to the end: the last 32 bytes tell.
+fn reaches_end(s: &[u8], at: usize, i: usize) -> bool
+    requires { ⌜ (at ≤ length (now s)) × (i ≤ length (now s)) × (i + runLength isZero (drop i (now s)) ≡ at + runLength isZero (drop at (now s))) ⌝ }
+    ensures { λ r. ⌜ (r ≡ true → length (now (s .entry)) ≡ at + runLength isZero (drop at (now (s .entry)))) ⌝ }
+{
+    if BLOCK <= s.len() - i {
+        return false;
+    }
+    if s.len() - at < BLOCK {
+        return false;
+    }
+    zero_block(s, s.len() - BLOCK)
+}
+
+// The end of the run by blocks, then byte by byte.
 fn far_end(s: &[u8], at: usize) -> usize
     requires { ⌜ at ≤ length (now s) ⌝ }
     ensures { λ r. ⌜ r ≡ at + runLength isZero (drop at (now (s .entry))) ⌝ }
 {
     let mut i = zero_blocks_end(s, at);
+    if reaches_end(s, at, i) {
+        return s.len();
+    }
     while i < s.len() {
         if s[i] != b'0' {
             return i;

@@ -3,10 +3,10 @@
 use mathlib.Core.Path.{_≡_, refl, sym, ap, _∙_}
 use mathlib.Core.Bool.{Bool, true, false, cond, not}
 use mathlib.Core.List.{List, [], _∷_}
-use Prim.Native.Nat.{ℕ, zero, suc, _+_, _≤_, _<_}
+use Prim.Native.Nat.{ℕ, zero, suc, _+_, _-_, _≤_, _<_}
 use native.Mathlib.Omega.{arith}
 use native.Mathlib.Numerals.{add-one}
-use lib.ListN.{length, drop, getD, drop-of-length-le}
+use lib.ListN.{length, drop, getD, drop-of-length-le, length-drop}
 use lib.Seq.{drop-cons, drop-drop}
 use lib.Dec.{eqb, leb}
 use borrow.Author.Tests.{leb-true, leb-false, le-leb, lt-leb}
@@ -96,6 +96,14 @@ run-within good (b ∷ t) = go (good b) (run-within good t)
     go : (v : Bool) → runLength good t ≤ length t → cond v (suc (runLength good t)) 0 ≤ suc (length t)
     go true h = omega arith
     go false h = omega arith
+
+-- a run that passes a place behind which all are of it
+pub run-to-end : (good : ℕ → Bool) (t : Bytes) (at i last : ℕ) → at ≤ last → last ≤ i → last ≤ length t → i + runLength good (drop i t) ≡ at + runLength good (drop at t)
+    → length t ≤ last + runLength good (drop last t) → length t ≡ at + runLength good (drop at t)
+run-to-end good t at i last a b c whole all =
+    let to-last : at + (last - at) ≡ last = omega arith in
+    let past : last + runLength good (drop last t) ≡ at + runLength good (drop at t) = rw to-last at (run-past good t at (last - at) (omega arith)) in
+    omega (arith, past, run-within good (drop last t), length-drop last t)
 
 pub run-bytes : (good : ℕ → Bool) (t : Bytes) (k : ℕ) → k < runLength good t → good (getD t k 0) ≡ true
 unfolding runLength
