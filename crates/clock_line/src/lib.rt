@@ -36,10 +36,10 @@ pub fn count_clocks(line: &[u8]) -> usize
         return 0;
     }
     let tms_end = 4 + n;
-    if line[tms_end] != b'\t' {
+    if !all_in(line, word, n, b'1') {
         return 0;
     }
-    if !all_in(line, word, n, b'1') {
+    if line[tms_end] != b'\t' {
         return 0;
     }
     if !all_in(line, tms_end + 1, n, b'1') {

@@ -35,31 +35,52 @@ returns-2 : tie.Need-returns-2
 returns-2 c = not-tested _ _ (c .before .before .before .before .before .room-for .ensures) (λ t. true-false (sym (t .word) ∙ sym (c .before .equal .ensures) ∙ not-true _ (c .if2 .taken)))
 
 add-tms-end : tie.Need-add-tms-end
-add-tms-end c = omega (arith, c .before .before .before .before .before .room-for .ensures .short (omega (arith, c .before .before .before .before .if1 .left)), c .before .before .before .before .before .room-for .ensures .fits (omega (arith, c .before .before .before .before .if1 .left)))
-
-shared-slice-read-if3 : tie.Need-shared-slice-read-if3
-shared-slice-read-if3 c = omega (arith, c .before .before .before .before .before .before .room-for .ensures .fits (omega (arith, c .before .before .before .before .before .if1 .left)))
-
-returns-3 : tie.Need-returns-3
-returns-3 c = not-tested _ _ (c .before .before .before .before .before .before .before .room-for .ensures) (λ t. c .if3 .taken (t .middle))
+add-tms-end c =
+    let i = c .before .before .before .before in
+    let r = i .before .room-for .ensures in
+    omega (arith, r .short (omega (arith, i .if1 .left)), r .fits (omega (arith, i .if1 .left)))
 
 all-in-requires : tie.Need-all-in-requires
-all-in-requires c κs = omega (arith, c .before .before .before .before .before .before .before .room-for .ensures .fits (omega (arith, c .before .before .before .before .before .before .if1 .left)))
+all-in-requires c κs =
+    let i = c .before .before .before .before in
+    omega (arith, i .before .room-for .ensures .fits (omega (arith, i .if1 .left)))
+
+returns-3 : tie.Need-returns-3
+returns-3 c = not-tested _ _ (c .before .before .before .before .before .before .before .room-for .ensures) (no-tms _ _ (sym (c .before .all-in .ensures) ∙ not-true _ (c .if3 .taken)))
+
+shared-slice-read-if4 : tie.Need-shared-slice-read-if4
+shared-slice-read-if4 c =
+    let i = c .before .before .before .before .before .before .before in
+    omega (arith, i .before .room-for .ensures .fits (omega (arith, i .if1 .left)))
 
 returns-4 : tie.Need-returns-4
-returns-4 c = not-tested _ _ (c .before .before .before .before .before .before .before .before .before .room-for .ensures) (no-tms _ _ (sym (c .before .all-in .ensures) ∙ not-true _ (c .if4 .taken)))
+returns-4 c = not-tested _ _ (c .before .before .before .before .before .before .before .before .before .room-for .ensures) (λ t. c .if4 .taken (t .middle))
 
 add-all-in : tie.Need-add-all-in
-add-all-in c = omega (arith, c .before .before .before .before .before .before .before .before .before .room-for .ensures .short (omega (arith, c .before .before .before .before .before .before .before .before .if1 .left)), c .before .before .before .before .before .before .before .before .before .room-for .ensures .fits (omega (arith, c .before .before .before .before .before .before .before .before .if1 .left)))
+add-all-in c =
+    let i = c .before .before .before .before .before .before .before .before in
+    let r = i .before .room-for .ensures in
+    omega (arith, r .short (omega (arith, i .if1 .left)), r .fits (omega (arith, i .if1 .left)))
 
 all-in-requires-2 : tie.Need-all-in-requires-2
-all-in-requires-2 c κs = omega (arith, c .before .before .before .before .before .before .before .before .before .room-for .ensures .fits (omega (arith, c .before .before .before .before .before .before .before .before .if1 .left)))
+all-in-requires-2 c κs =
+    let i = c .before .before .before .before .before .before .before .before in
+    omega (arith, i .before .room-for .ensures .fits (omega (arith, i .if1 .left)))
 
 returns-5 : tie.Need-returns-5
-returns-5 c = not-tested _ _ (c .before .before .before .before .before .before .before .before .before .before .before .room-for .ensures) (no-tdi _ _ (sym (c .before .all-in2 .ensures) ∙ not-true _ (c .if5 .taken)))
+returns-5 c =
+    not-tested _ _ (c .before .before .before .before .before .before .before .before .before .before .before .room-for .ensures) (no-tdi _ _ (sym (c .before .all-in2 .ensures) ∙ not-true _ (c .if5 .taken)))
 
 returns-6 : tie.Need-returns-6
-returns-6 c = let r = c .before .before .before .before .before .before .before .before .before .before .before .room-for .ensures in let some-clock : 1 ≤ c .before .before .before .before .before .before .before .before .before .before .before .room-for .result = omega (arith, c .before .before .before .before .before .before .before .before .before .before .if1 .left) in counted _ _ (r .fits some-clock) (r .short some-clock) some-clock (passed _ _ (r .fits some-clock) (sym (c .before .before .before .before .before .before .before .equal .ensures) ∙ not-false _ (c .before .before .before .before .before .before .if2 .left)) (c .before .before .before .before .if3 .left) (leb-true _ _ (sym (c .before .before .before .all-in .ensures) ∙ not-false _ (c .before .before .if4 .left))) (leb-true _ _ (sym (c .before .all-in2 .ensures) ∙ not-false _ (c .if5 .left))))
+returns-6 c =
+    let t = c .before .before .before .before in
+    let w = t .before .before in
+    let i = w .before .before .before .before in
+    let r = i .before .room-for .ensures in
+    let some-clock : 1 ≤ i .before .room-for .result = omega (arith, i .if1 .left) in
+    counted _ _ (r .fits some-clock) (r .short some-clock) some-clock
+    (passed _ _ (r .fits some-clock) (sym (w .before .equal .ensures) ∙ not-false _ (w .if2 .left)) (c .before .before .if4 .left) (leb-true _ _ (sym (t .before .all-in .ensures) ∙ not-false _ (t .if3 .left)))
+    (leb-true _ _ (sym (c .before .all-in2 .ensures) ∙ not-false _ (c .if5 .left))))
 
 pub count-clocks-spec : {M : Type 1} → statement M
 count-clocks-spec =
@@ -74,9 +95,9 @@ count-clocks-spec =
     equal-requires
     returns-2
     add-tms-end
-    shared-slice-read-if3
-    returns-3
     all-in-requires
+    returns-3
+    shared-slice-read-if4
     returns-4
     add-all-in
     all-in-requires-2
