@@ -21,7 +21,7 @@ use Rattle.model.specs.Text.{Bytes}
 use Rattle.model.proofs.GoesOn.{tested}
 use Rattle.model.proofs.Lists.{not-ok, ok-is, handed, passed-test}
 use Rattle.plan_text.specs.Writing.{writeAt}
-use Rattle.recoverer.specs.Parts.{answerBefore, DidPart}
+use Rattle.recoverer.specs.Parts.{answerBefore}
 use Rattle.program_text.specs.Printing.{PrintedTo}
 use Rattle.program_text.specs.Recovery.{holding, recoveryShown, Took, none-yet, one-more}
 

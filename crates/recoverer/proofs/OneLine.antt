@@ -1,10 +1,10 @@
 -- The call for a line: where it leads, test by test, and what it writes.
 -- Assumes nothing.
 use mathlib.Core.Path.{_≡_, refl, sym, ap, _∙_}
-use mathlib.Core.Bool.{Bool, true, false, cond, not}
+use mathlib.Core.Bool.{true, false, cond, not}
 use mathlib.Core.Option.{Option, none, some}
 use mathlib.Core.List.{List, [], _∷_, _++_, map}
-use Prim.Native.Nat.{ℕ, suc, _+_, _-_, _≤_, _<_}
+use Prim.Native.Nat.{ℕ, suc, _+_, _≤_, _<_}
 use native.Mathlib.Omega.{arith}
 use native.Mathlib.Numerals.{add-one}
 use lib.ListN.{length, take, drop}
@@ -15,7 +15,7 @@ use Rattle.model.specs.Limits.{maxPlanBytes}
 use Rattle.model.specs.Recover.{Follower, followClocks, ifFollowed}
 use Rattle.model.specs.RecoverCalls.{Progress, progressOf, underWay, canGoOn, addedText, bytesWritten, resumed, Step, stepOver, stepLine, LineAnswer, recoverLine}
 use Rattle.model.specs.Refusals as refusal
-use Rattle.model.specs.Result.{Result, ok, refused, andThen}
+use Rattle.model.specs.Result.{Result, ok, refused}
 use Rattle.model.specs.Tap.{Clock, stateAt}
 use Rattle.model.specs.Text.{Bytes, bind}
 use Rattle.model.proofs.ClockLines.{tmsOf}
@@ -27,7 +27,7 @@ use Rattle.plan_text.specs.Writing.{writeAt}
 use Rattle.plan_text.proofs.Writing.{write-none}
 use Rattle.clock_writer.specs.Machine.{isOne}
 use Rattle.clock_line.specs.Line.{clockCount}
-use Rattle.clock_line.proofs.Lines.{HasClocks, counted-clocks, uncounted}
+use Rattle.clock_line.proofs.Lines.{counted-clocks, uncounted}
 use Rattle.clock_follower.specs.Counts.{countsBy}
 use Rattle.clock_follower.proofs.Counts.{counts-followed}
 use Rattle.recoverer.specs.Answers.{progressAfter, clocksIn, textOfLine, CanPut}

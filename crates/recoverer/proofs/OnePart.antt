@@ -1,16 +1,14 @@
 -- One part of a text: the lines that have ended, then the rest.
 -- Assumes nothing.
 use mathlib.Core.Path.{_≡_, refl, sym, ap, _∙_}
-use mathlib.Core.List.{List, []}
-use Prim.Native.Nat.{ℕ, _-_, _≤_, _<_}
+use Prim.Native.Nat.{ℕ, _-_}
 use native.Mathlib.Omega.{arith}
 use lib.ListN.{length, take, drop, length-drop}
 use lib.Seq.{length-take-le, take-all}
 use Rattle.model.specs.Calls.{writeOver}
-use Rattle.model.specs.Limits.{maxLineBytes}
-use Rattle.model.specs.RecoverCalls.{Progress, LineAnswer, recoverLines, behind, unlessLong, heldAfter, Recovery, recoverPart}
-use Rattle.model.specs.Result.{Result, ok, refused, andThen}
-use Rattle.model.specs.Text.{Bytes, parts, ended, lineEnd}
+use Rattle.model.specs.RecoverCalls.{Progress, behind, heldAfter, Recovery, recoverPart}
+use Rattle.model.specs.Result.{Result, ok, refused}
+use Rattle.model.specs.Text.{Bytes, parts, lineEnd}
 use Rattle.model.proofs.CallCases.{row-taken}
 use Rattle.model.proofs.Lists.{not-ok}
 use Rattle.model.proofs.OnePart.{part-short}

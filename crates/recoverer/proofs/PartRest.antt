@@ -13,7 +13,6 @@ use Rattle.model.specs.Limits.{maxLineBytes}
 use Rattle.model.specs.RecoverCalls.{Progress, stepLine}
 use Rattle.model.specs.Result.{Result, ok, refused}
 use Rattle.model.specs.Text.{Bytes}
-use Rattle.plan_text.specs.Writing.{writeAt}
 use Rattle.plan_text.proofs.Writing.{over-is, put-next, over-length}
 use Rattle.recoverer.specs.Answers.{progressAfter}
 use Rattle.recoverer.specs.Parts.{withRest}

@@ -3,9 +3,8 @@
 use mathlib.Core.Path.{_≡_, refl, ap}
 use mathlib.Core.Bool.{Bool, true, false}
 use mathlib.Core.List.{List, [], _∷_, map}
-use Prim.Native.Nat.{ℕ}
 use Rattle.model.specs.Printed.{pins}
-use Rattle.model.specs.Tap.{Clock, clk, bitByte}
+use Rattle.model.specs.Tap.{Clock, bitByte}
 use Rattle.model.specs.Text.{Bytes}
 use Rattle.model.proofs.ClockLines.{tmsOf, tdiOf}
 use Rattle.clock_writer.specs.Machine.{isOne}

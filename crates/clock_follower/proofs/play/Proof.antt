@@ -1,13 +1,12 @@
 -- `clock_follower::play` meets its contract. The loop's invariant is that of `follow` and that of `write`, with what stands in the buffer as
 -- what is counted.
 -- Assumes nothing.
-use mathlib.Core.Option.{some}
-use mathlib.Core.Path.{_≡_, sym, ap, _∙_}
+use mathlib.Core.Path.{sym, ap, _∙_}
 use Prim.Native.Nat.{_-_}
 use native.Mathlib.Omega.{arith}
 use lib.ListN.{length}
 use borrow.Author.Needs.{needs}
-use Rattle.clock_follower.specs.Counts.{progressFor, followedFor, movedOn, unlessOffending}
+use Rattle.clock_follower.specs.Counts.{progressFor, followedFor}
 use Rattle.clock_follower.proofs.Playing.{PlayedTo, played-start, played-end, played-stop, played-fits, played-on}
 use Rattle.clock_follower.proofs.play.Statement.{statement}
 use Rattle.clock_follower.proofs.play.Tie as tie

@@ -1,7 +1,7 @@
 -- `clock_follower::zeros::far_end` meets its contract. The loop's invariant: the run from i on ends where that from `at` on ends.
 -- Assumes nothing.
 use mathlib.Core.Path.{_≡_}
-use Prim.Native.Nat.{_+_, _-_, _≤_}
+use Prim.Native.Nat.{_+_, _-_}
 use native.Mathlib.Omega.{arith}
 use lib.ListN.{length, drop, length-drop}
 use borrow.Author.Needs.{needs}

@@ -1,6 +1,6 @@
 -- `program_text::recovery::print_recovery` meets its contract.
 -- Assumes nothing.
-use mathlib.Core.Path.{sym, ap, _∙_}
+use mathlib.Core.Path.{ap, _∙_}
 use borrow.Author.Needs.{needs}
 use Rattle.program_text.proofs.RecoveryShown.{shown-refused, shown-as}
 use Rattle.program_text.proofs.Front.{printed-to}

@@ -1,8 +1,6 @@
 -- `recoverer::line::bytes_written` meets its contract.
 -- Assumes nothing.
 use mathlib.Core.Path.{sym, _∙_}
-use native.Mathlib.Omega.{arith}
-use borrow.Author.Tests.{not-true}
 use borrow.Author.Needs.{needs}
 use Rattle.recoverer.proofs.GoingOn.{less-end, all-written}
 use Rattle.clock_follower.specs.Counts.{progressFor}
