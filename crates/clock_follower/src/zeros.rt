@@ -56,7 +56,7 @@ fn reaches_end(s: &[u8], at: usize, i: usize) -> bool
     if s.len() - at < BLOCK {
         return false;
     }
-    zero_block(s, s.len() - BLOCK)
+    zero_blocks_end(s, s.len() - BLOCK) == s.len()
 }
 
 // The end of the run by blocks, then byte by byte.

@@ -80,9 +80,9 @@ pub fn find_line(text: &[u8], at: usize, guess: usize) -> Found
 {
     if guess < text.len() - at {
         let near = at + guess;
-        if text[near] == b'\n' {
-            let n = count_clocks(&text[at..near]);
-            if n != 0 {
+        let n = count_clocks(&text[at..near]);
+        if n != 0 {
+            if text[near] == b'\n' {
                 return Found {
                     end: near,
                     clocks: n,

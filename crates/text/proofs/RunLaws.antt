@@ -86,6 +86,14 @@ module _ (good : ℕ → Bool) (t : Bytes) (at j : ℕ) (x : Bool) (tested : x �
       go true e = sym (lt-leb (j + 1) count (omega (arith, run-stop good t (at + j) _ (run-past good t at j (leb-true j count e)) inside o)))
       go false e = sym (lt-leb (j + 1) count (omega (arith, leb-false j count e)))
 
+-- the test of n bytes by that of the last k of them, where those before are of the run
+pub run-last : (good : ℕ → Bool) (t : Bytes) (at n k : ℕ) → k ≤ n → n - k ≤ runLength good (drop at t) → leb k (runLength good (drop (at + (n - k)) t)) ≡ leb n (runLength good (drop at t))
+run-last good t at n k h before = go (leb k (runLength good (drop (at + (n - k)) t))) refl
+  where
+    go : (x : Bool) → leb k (runLength good (drop (at + (n - k)) t)) ≡ x → x ≡ leb n (runLength good (drop at t))
+    go true e = sym (le-leb n (runLength good (drop at t)) (omega (arith, run-past good t at (n - k) before, leb-true k (runLength good (drop (at + (n - k)) t)) e)))
+    go false e = sym (lt-leb n (runLength good (drop at t)) (omega (arith, run-past good t at (n - k) before, leb-false k (runLength good (drop (at + (n - k)) t)) e)))
+
 -- ---- the bytes of the run
 
 pub run-within : (good : ℕ → Bool) (t : Bytes) → runLength good t ≤ length t

@@ -22,7 +22,7 @@ fn in_run(b: u8, last: u8) -> bool
 
 // Whether the n bytes from a place on are all from `0` up to a last one. The loop has no early exit, so that the compiler can
 // compare many bytes at once.
-pub fn all_in(s: &[u8], at: usize, n: usize, last: u8) -> bool
+fn each_in(s: &[u8], at: usize, n: usize, last: u8) -> bool
     requires { ⌜ at + n ≤ length (now s) ⌝ }
     ensures { λ r. ⌜ r ≡ leb n (runLength (inRun last) (drop at (now (s .entry)))) ⌝ }
 {
@@ -37,6 +37,20 @@ pub fn all_in(s: &[u8], at: usize, n: usize, last: u8) -> bool
     all
 }
 
+// The same for many bytes. The compiler's loop is slow behind its last whole block: the last 32 bytes are looked at as one, some of them again.
+pub fn all_in(s: &[u8], at: usize, n: usize, last: u8) -> bool
+    requires { ⌜ at + n ≤ length (now s) ⌝ }
+    ensures { λ r. ⌜ r ≡ leb n (runLength (inRun last) (drop at (now (s .entry)))) ⌝ }
+{
+    if n < BLOCK {
+        return each_in(s, at, n, last);
+    }
+    if !each_in(s, at, n - n % BLOCK, last) {
+        return false;
+    }
+    each_in(s, at + (n - BLOCK), BLOCK, last)
+}
+
 // The place behind whole blocks of 32 such bytes from a place on: the runs from either place on end at the same byte.
 fn blocks_end(s: &[u8], at: usize, last: u8) -> usize
     requires { ⌜ at ≤ length (now s) ⌝ }
@@ -44,7 +58,7 @@ fn blocks_end(s: &[u8], at: usize, last: u8) -> usize
 {
     let mut i = at;
     while BLOCK <= s.len() - i {
-        if !all_in(s, i, BLOCK, last) {
+        if !each_in(s, i, BLOCK, last) {
             return i;
         }
         i += BLOCK;
@@ -67,7 +81,7 @@ pub fn run_end(s: &[u8], at: usize, last: u8) -> usize
     i
 }
 
-// Whether none of the 32 bytes from a place on is b; as `all_in`.
+// Whether none of the 32 bytes from a place on is b; as `each_in`.
 fn block_without(s: &[u8], at: usize, b: u8) -> bool
     requires { ⌜ at + 32 ≤ length (now s) ⌝ }
     ensures { λ r. ⌜ r ≡ leb 32 (runLength (other b) (drop at (now (s .entry)))) ⌝ }

@@ -70,6 +70,7 @@ extern "C" {
 const UNWRITTEN: usize = usize::MAX;
 
 /// 0 and the four counts of an accepted network, or number and place of a refusal and three zeros.
+#[inline]
 pub fn read(text: &[u8]) -> [usize; 5] {
     let mut answer = [UNWRITTEN; 5];
     // SAFETY: the call has no `requires`; it reads the slice and writes the five numbers.
@@ -79,6 +80,7 @@ pub fn read(text: &[u8]) -> [usize; 5] {
 
 /// 0, the counts of operations, of clocks and of `got` rows, and the rows as target, operation and
 /// place; or number and place of a refusal. Zeros stand behind.
+#[inline]
 pub fn mark(network: &[u8], plan: &[u8]) -> [usize; 16] {
     let mut answer = [UNWRITTEN; 16];
     // SAFETY: the call has no `requires`; it reads the slices and writes the sixteen numbers.
@@ -95,6 +97,7 @@ pub fn mark(network: &[u8], plan: &[u8]) -> [usize; 16] {
 }
 
 /// Writes the clocks of a plan text. 0 and their count, or number and place of a refusal.
+#[inline]
 pub fn clocks(plan: &[u8], tms: &mut [u8], tdi: &mut [u8]) -> [usize; 2] {
     let mut answer = [UNWRITTEN; 2];
     // SAFETY: the call has no `requires`; it reads the plan and writes within the two slices, which
@@ -115,6 +118,7 @@ pub fn clocks(plan: &[u8], tms: &mut [u8], tdi: &mut [u8]) -> [usize; 2] {
 
 /// Writes the plan of a network text to the front of `plan`. 0 and the count of its bytes, or number
 /// and place of a refusal.
+#[inline]
 pub fn plan(network: &[u8], search: &mut [u16], plan: &mut [u8]) -> [usize; 2] {
     let mut answer = [UNWRITTEN; 2];
     // SAFETY: the call has no `requires`; it reads the network and writes within the two slices,
@@ -135,6 +139,7 @@ pub fn plan(network: &[u8], search: &mut [u16], plan: &mut [u8]) -> [usize; 2] {
 
 /// Writes the plan of a text of clocks to the front of `plan`. 0 and the count of its bytes, or number
 /// and place of a refusal.
+#[inline]
 pub fn recover(text: &[u8], plan: &mut [u8]) -> [usize; 2] {
     let mut answer = [UNWRITTEN; 2];
     // SAFETY: the call has no `requires`; it reads the text and writes within `plan` and the two
@@ -154,6 +159,7 @@ pub fn recover(text: &[u8], plan: &mut [u8]) -> [usize; 2] {
 /// Follows one more line of clocks, without its line end, and writes what it adds to the plan.
 /// `progress` is lines, state, entries and bytes of plan. 0 and the new progress, or number and place of
 /// a refusal and three zeros.
+#[inline]
 pub fn recover_line(progress: &[usize; 4], line: &[u8], plan: &mut [u8]) -> [usize; 5] {
     let mut answer = [UNWRITTEN; 5];
     // SAFETY: the call has no `requires`; it reads the four numbers and the line and writes within
@@ -173,6 +179,7 @@ pub fn recover_line(progress: &[usize; 4], line: &[u8], plan: &mut [u8]) -> [usi
 
 /// The end of a text of clocks; `rest` is what stands behind its last line end. 0 and the count of the
 /// plan's bytes, or number and place of a refusal.
+#[inline]
 pub fn recover_end(progress: &[usize; 4], rest: &[u8]) -> [usize; 2] {
     let mut answer = [UNWRITTEN; 2];
     // SAFETY: the call has no `requires`; it reads the four numbers and the rest and writes the two

@@ -13,9 +13,6 @@ sub-if1 c = search needs
 add-near : tie.Need-add-near
 add-near c = search needs
 
-shared-slice-read-if2 : tie.Need-shared-slice-read-if2
-shared-slice-read-if2 c = search needs
-
 sub-count-clocks : tie.Need-sub-count-clocks
 sub-count-clocks c = search needs
 
@@ -28,8 +25,18 @@ part-count-clocks-end c = search needs
 count-clocks-requires : tie.Need-count-clocks-requires
 count-clocks-requires c κs = search needs
 
+shared-slice-read-if3 : tie.Need-shared-slice-read-if3
+shared-slice-read-if3 c = search needs
+
 returns : tie.Need-returns
-returns c = record { ends = clocks-end (c .before .before .before .before .before .before .before .args .text .now) (c .before .before .before .before .before .before .before .args .at) _ _ (omega arith) (omega (arith, c .before .before .before .before .before .if1 .taken)) (c .before .before .before .if2 .taken) (counted-clocks _ _ (c .before .count-clocks .ensures) (c .if3 .taken)); counts = c .before .count-clocks .ensures }
+returns c =
+    let n = c .before .before .before in
+    let i = n .before .before in
+    let a = i .before .before .args in
+    record {
+      ends = clocks-end (a .text .now) (a .at) _ _ (omega arith) (omega (arith, i .if1 .taken)) (c .if3 .taken) (counted-clocks _ _ (n .count-clocks .ensures) (c .before .before .if2 .taken));
+      counts = n .count-clocks .ensures;
+    }
 
 far-end-of-requires : tie.Need-far-end-of-requires
 far-end-of-requires c κs = search needs
@@ -55,11 +62,11 @@ find-line-spec =
     (tie.spec
     sub-if1
     add-near
-    shared-slice-read-if2
     sub-count-clocks
     part-count-clocks-start
     part-count-clocks-end
     count-clocks-requires
+    shared-slice-read-if3
     returns
     far-end-of-requires
     sub-count-clocks-2

@@ -1,13 +1,12 @@
 -- `clock_follower::zeros::reaches_end` meets its contract.
 -- Assumes nothing.
-use mathlib.Core.Path.{sym, _∙_}
+use mathlib.Core.Path.{sym}
 use Prim.Native.Nat.{_-_}
 use native.Mathlib.Omega.{arith}
-use lib.ListN.{length, drop}
+use lib.ListN.{length}
 use borrow.Author.Needs.{needs}
-use borrow.Author.Tests.{leb-true}
+use borrow.Author.Tests.{eqb-true}
 use Rattle.model.proofs.Lists.{true-false}
-use Rattle.text.specs.Runs.{runLength}
 use Rattle.text.proofs.RunLaws.{run-to-end}
 use Rattle.clock_follower.specs.Stretches.{isZero}
 use Rattle.clock_follower.proofs.zeros.reaches_end.Statement.{statement}
@@ -25,20 +24,20 @@ sub-if2 c = search needs
 returns-2 : tie.Need-returns-2
 returns-2 c e = absurd (true-false (sym e))
 
-sub-zero-block : tie.Need-sub-zero-block
-sub-zero-block c = search needs
+sub-zero-blocks-end : tie.Need-sub-zero-blocks-end
+sub-zero-blocks-end c = search needs
 
-zero-block-requires : tie.Need-zero-block-requires
-zero-block-requires c κs = search needs
+zero-blocks-end-requires : tie.Need-zero-blocks-end-requires
+zero-blocks-end-requires c κs = search needs
 
 returns-3 : tie.Need-returns-3
 returns-3 c e =
     let s = c .before .before .before .before in
     let t = s .args .s .now in
     run-to-end isZero t (s .args .at) (s .args .i) (length t - 32) (omega (arith, c .before .if2 .left)) (omega (arith, c .before .before .if1 .left)) (omega arith) (s .pre .2)
-    (omega (arith, c .before .if2 .left, leb-true 32 (runLength isZero (drop (length t - 32) t)) (sym (c .zero-block .ensures) ∙ e)))
+    (omega (arith, c .before .if2 .left, c .zero-blocks-end .ensures, eqb-true (c .zero-blocks-end .result) (length t) e))
 
 pub reaches-end-spec : {M : Type 1} → statement M
 reaches-end-spec =
     tie.close
-    (tie.spec sub-if1 returns sub-if2 returns-2 sub-zero-block zero-block-requires returns-3)
+    (tie.spec sub-if1 returns sub-if2 returns-2 sub-zero-blocks-end zero-blocks-end-requires returns-3)

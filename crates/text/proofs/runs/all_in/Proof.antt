@@ -1,65 +1,55 @@
--- `text::runs::all_in` meets its contract. The loop's invariant: `all` tells whether the first j bytes are of the run.
+-- `text::runs::all_in` meets its contract.
 -- Assumes nothing.
-use mathlib.Core.Path.{_≡_, sym, _∙_}
-use mathlib.Core.Logic.{⊎-elim}
-use Prim.Native.Nat.{_-_, _≤_}
+use mathlib.Core.Path.{sym, _∙_}
+use Prim.Native.Nat.{_-_, _%_}
 use native.Mathlib.Omega.{arith}
 use lib.ListN.{drop}
-use lib.Dec.{leb, leb·zero}
 use borrow.Author.Needs.{needs}
-use borrow.Author.Tests.{not-true, not-false}
+use borrow.Author.Tests.{not-true, not-false, leb-true, leb-false, lt-leb}
 use Rattle.text.specs.Runs.{inRun, runLength}
-use Rattle.text.proofs.RunLaws.{block-on, block-stop}
+use Rattle.text.proofs.RunLaws.{run-last}
 use Rattle.text.proofs.runs.all_in.Statement.{statement}
 use Rattle.text.proofs.runs.all_in.Tie as tie
 
-abbrev Inv-loop : tie.InvT-loop
-Inv-loop s at n last all₀ j₀ all j = (j ≤ n) × (all ≡ leb j (runLength (inRun last) (drop at s)))
+each-in-requires : tie.Need-each-in-requires
+each-in-requires c κs = search needs
 
-abbrev μ-loop : tie.MeasureT-loop
-μ-loop s at n last all₀ j₀ all j = n - j
+returns : tie.Need-returns
+returns c = c .each-in .ensures
 
-loop-holds : tie.Need-loop-holds Inv-loop μ-loop
-loop-holds c = (search needs, sym (leb·zero (runLength (inRun (c .before .args .last)) (drop (c .before .args .at) (c .before .args .s .now)))))
+sub-each-in : tie.Need-sub-each-in
+sub-each-in c = omega arith
 
-add-in-run : tie.Need-add-in-run Inv-loop μ-loop
-add-in-run c = search needs
+each-in-requires-2 : tie.Need-each-in-requires-2
+each-in-requires-2 c κs = omega (arith, c .before .before .pre)
 
-shared-slice-read-in-run : tie.Need-shared-slice-read-in-run Inv-loop μ-loop
-shared-slice-read-in-run c = search needs
+returns-2 : tie.Need-returns-2
+returns-2 c =
+    let a = c .before .before .before .before .args in
+    sym (lt-leb (a .n) (runLength (inRun (a .last)) (drop (a .at) (a .s .now))) (omega (arith, leb-false (a .n - a .n % 32) (runLength (inRun (a .last)) (drop (a .at) (a .s .now))) (sym (c .before .each-in2 .ensures) ∙ not-true _ (c .if2 .taken)))))
 
-in-run-requires : tie.Need-in-run-requires Inv-loop μ-loop
-in-run-requires c κs = search needs
+add-each-in : tie.Need-add-each-in
+add-each-in c = omega (arith, c .before .before .before .before .pre, c .before .before .if1 .left)
 
-add-j : tie.Need-add-j Inv-loop μ-loop
-add-j c = search needs
+each-in-requires-3 : tie.Need-each-in-requires-3
+each-in-requires-3 c κs = omega (arith, c .before .before .before .before .pre, c .before .before .if1 .left)
 
-loop-less : tie.Need-loop-less Inv-loop μ-loop
-loop-less c = search needs
-
-loop-again : tie.Need-loop-again Inv-loop μ-loop
-loop-again c =
-    let k = c .before .before .before .before in
-    let a = k .before .before .args in
-    let on = block-on (inRun (a .last)) (a .s .now) (a .at) (k .loop .j) _ (k .loop .inv .1) (search needs) in
-    let stop = block-stop (inRun (a .last)) (a .s .now) (a .at) (k .loop .j) _ (k .loop .inv .1) (search needs) in
-    let is = c .before .in-run .ensures in
-    (search needs, ⊎-elim (λ w. w .1 ∙ stop (sym is ∙ not-true _ (w .0 .taken))) (λ w. w .1 ∙ on (sym is ∙ not-false _ (w .0 .left))) (c .if1 .came))
-
-returns : tie.Need-returns Inv-loop μ-loop
-returns c = let e : c .before .loop .j ≡ c .before .before .before .args .n = omega arith in rw e at (c .before .loop .inv .1)
+returns-3 : tie.Need-returns-3
+returns-3 c =
+    let i = c .before .before .before in
+    let a = i .before .before .args in
+    c .each-in3 .ensures
+    ∙ run-last (inRun (a .last)) (a .s .now) (a .at) (a .n) 32 (omega (arith, i .if1 .left)) (omega (arith, leb-true (a .n - a .n % 32) (runLength (inRun (a .last)) (drop (a .at) (a .s .now))) (sym (c .before .before .each-in2 .ensures) ∙ not-false _ (c .before .if2 .left))))
 
 pub all-in-spec : {M : Type 1} → statement M
 all-in-spec =
     tie.close
     (tie.spec
-    Inv-loop
-    μ-loop
-    loop-holds
-    add-in-run
-    shared-slice-read-in-run
-    in-run-requires
-    add-j
-    loop-less
-    loop-again
-    returns)
+    each-in-requires
+    returns
+    sub-each-in
+    each-in-requires-2
+    returns-2
+    add-each-in
+    each-in-requires-3
+    returns-3)

@@ -22,8 +22,8 @@ loop-holds c = (search needs, refl)
 sub-loop : tie.Need-sub-loop Inv-loop μ-loop
 sub-loop c = search needs
 
-all-in-requires : tie.Need-all-in-requires Inv-loop μ-loop
-all-in-requires c κs = search needs
+each-in-requires : tie.Need-each-in-requires Inv-loop μ-loop
+each-in-requires c κs = search needs
 
 returns : tie.Need-returns Inv-loop μ-loop
 returns c = c .before .before .before .loop .inv .1
@@ -35,7 +35,7 @@ loop-less : tie.Need-loop-less Inv-loop μ-loop
 loop-less c = search needs
 
 loop-again : tie.Need-loop-again Inv-loop μ-loop
-loop-again c = (search needs, run-block _ _ _ 32 _ (c .before .before .before .loop .inv .1) _ (c .before .all-in .ensures) (not-false _ (c .if1 .left)))
+loop-again c = (search needs, run-block _ _ _ 32 _ (c .before .before .before .loop .inv .1) _ (c .before .each-in .ensures) (not-false _ (c .if1 .left)))
 
 returns-2 : tie.Need-returns-2 Inv-loop μ-loop
 returns-2 c = c .before .loop .inv .1
@@ -48,7 +48,7 @@ blocks-end-spec =
     μ-loop
     loop-holds
     sub-loop
-    all-in-requires
+    each-in-requires
     returns
     add-i
     loop-less
