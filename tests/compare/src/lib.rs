@@ -162,6 +162,18 @@ pub fn recover(text: &[u8], plan: &mut [u8]) -> [usize; 2] {
 #[inline]
 pub fn recover_line(progress: &[usize; 4], line: &[u8], plan: &mut [u8]) -> [usize; 5] {
     let mut answer = [UNWRITTEN; 5];
+    recover_line_into(progress, line, plan, &mut answer);
+    answer
+}
+
+/// The same with a lent answer.
+#[inline]
+pub fn recover_line_into(
+    progress: &[usize; 4],
+    line: &[u8],
+    plan: &mut [u8],
+    answer: &mut [usize; 5],
+) {
     // SAFETY: the call has no `requires`; it reads the four numbers and the line and writes within
     // `plan` and the five numbers.
     unsafe {
@@ -174,7 +186,6 @@ pub fn recover_line(progress: &[usize; 4], line: &[u8], plan: &mut [u8]) -> [usi
             answer.as_mut_ptr(),
         )
     };
-    answer
 }
 
 /// The end of a text of clocks; `rest` is what stands behind its last line end. 0 and the count of the

@@ -3,7 +3,7 @@
 use std::hint::black_box;
 
 use penthluk_compare::expected::{count_numbers, progress_numbers};
-use penthluk_compare::{recover, recover_end, recover_line};
+use penthluk_compare::{recover, recover_end, recover_line_into};
 use penthluk_reference::clocks::operation_clocks;
 use penthluk_reference::generate::clock_lines::{clk_line, idle_line, LONGEST_LINE};
 use penthluk_reference::limits::MAX_PLAN_BYTES;
@@ -72,8 +72,10 @@ fn whole(name: &str, text: &[u8], rounds: Rounds) {
 /// The lines through the proved call; each is to be accepted.
 fn proved_lines(lines: &[&[u8]], plan: &mut [u8]) -> [usize; 2] {
     let mut progress = progress_numbers(&Progress::default());
+    let mut answer = [0; 5];
     for line in lines {
-        let [number, lines, state, entries, bytes] = recover_line(&progress, line, plan);
+        recover_line_into(&progress, line, plan, &mut answer);
+        let [number, lines, state, entries, bytes] = answer;
         assert_eq!(number, 0);
         progress = [lines, state, entries, bytes];
     }
