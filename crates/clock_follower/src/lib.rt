@@ -235,15 +235,15 @@ pub fn play(p: Progress, place: usize, tms: &[u8], tdi: &[u8], plan: &mut [u8]) 
     let mut at = place;
     let mut i: usize = 0;
     while i < tms.len() {
-        let state = now.state;
-        let end = stretch_end(state, tms, i);
-        let next = next_state(state, tms[end - 1]);
+        let from = now.state;
+        let end = stretch_end(from, tms, i);
+        let next = next_state(from, tms[end - 1]);
         let then = passed(now, end - i, next);
         match then {
             Followed::To(q) => now = q,
             Followed::Offends => return Followed::Offends,
         }
-        at = put_stretch(plan, at, state, &tdi[i..end], next);
+        at = put_stretch(plan, at, from, &tdi[i..end], next);
         i = end;
     }
     Followed::To(now)

@@ -6,6 +6,7 @@ use penthluk_compare::expected::{count_numbers, progress_numbers};
 use penthluk_compare::{recover, recover_end, recover_line_into};
 use penthluk_reference::clocks::operation_clocks;
 use penthluk_reference::generate::clock_lines::{clk_line, idle_line, LONGEST_LINE};
+use penthluk_reference::generate::random::Random;
 use penthluk_reference::limits::MAX_PLAN_BYTES;
 use penthluk_reference::programs;
 use penthluk_reference::recover::calls::{self, Progress};
@@ -27,6 +28,16 @@ const CLOCKS: [usize; 3] = [37, 497, LONGEST_LINE];
 fn waiting(before: &[u8], clocks: usize, after: &[u8]) -> Vec<u8> {
     let line = idle_line(clocks);
     [before, &line.repeat(BYTES / line.len()), after].concat()
+}
+
+/// The same in lines of 20 to 60 clocks in no order.
+fn waiting_in_any_lines() -> Vec<u8> {
+    let mut random = Random::new(2);
+    let mut text = Vec::new();
+    while text.len() < BYTES {
+        text.extend(idle_line(random.between(20, 60)));
+    }
+    text
 }
 
 /// The clocks in lines of so many.
@@ -114,6 +125,7 @@ pub fn recoverings() {
     let pause = waiting(b"clk\t10010\t00010\n", 37, b"clk\t110\t000\n");
     whole("recover, waiting in Pause-DR, lines of 80 bytes", &pause, LONG);
     whole("recover, waiting, lines of one clock", &waiting(b"", 1, b""), LONG);
+    whole("recover, waiting, lines of 20 to 60 clocks", &waiting_in_any_lines(), LONG);
     whole("recover, 16 operations of 4,000 bits", &programs::clock(&longest_plan()), SHORT);
     let ((tms, tdi), (paused_tms, paused_tdi)) = (longest_clocks(), paused_clocks());
     for (name, text) in [
