@@ -18,16 +18,22 @@ use super::{compare, longest_plan, Rounds, SHORT};
 /// A text that is many lines in itself.
 const LONG: Rounds = Rounds { rounds: 7, calls: 1 };
 
-/// The length of a long text.
+/// The length of a long text, and of one that stays in the cache, as a line does that has just been read.
 const BYTES: usize = 64_000_000;
+const CACHED: usize = 1_000_000;
 
 /// The clocks of lines of 80, 1,000 and 32,768 bytes.
 const CLOCKS: [usize; 3] = [37, 497, LONGEST_LINE];
 
-/// A long text of waiting: lines of so many clocks with TMS 0 and TDI 0 behind these bytes.
+/// A long text of waiting: lines of so many clocks with TMS 0 and TDI 0 between these bytes.
 fn waiting(before: &[u8], clocks: usize, after: &[u8]) -> Vec<u8> {
+    [before, &idle_lines(BYTES, clocks), after].concat()
+}
+
+/// At most so many bytes of such lines.
+fn idle_lines(bytes: usize, clocks: usize) -> Vec<u8> {
     let line = idle_line(clocks);
-    [before, &line.repeat(BYTES / line.len()), after].concat()
+    line.repeat(bytes / line.len())
 }
 
 /// The same in lines of 20 to 60 clocks in no order.
@@ -80,17 +86,21 @@ fn whole(name: &str, text: &[u8], rounds: Rounds) {
     compare(name, text.len(), rounds, proved, plain);
 }
 
-/// The lines through the proved call; each is to be accepted.
+/// The lines through the proved call; each is to be accepted. Behind its 0 an answer is the next progress.
 fn proved_lines(lines: &[&[u8]], plan: &mut [u8]) -> [usize; 2] {
-    let mut progress = progress_numbers(&Progress::default());
-    let mut answer = [0; 5];
+    let [lines_so_far, state, entries, bytes] = progress_numbers(&Progress::default());
+    let (mut answer, mut next) = (&mut [0, lines_so_far, state, entries, bytes], &mut [0; 5]);
     for line in lines {
-        recover_line_into(&progress, line, plan, &mut answer);
-        let [number, lines, state, entries, bytes] = answer;
-        assert_eq!(number, 0);
-        progress = [lines, state, entries, bytes];
+        recover_line_into(progress_in(answer), line, plan, next);
+        assert_eq!(next[0], 0);
+        (answer, next) = (next, answer);
     }
-    recover_end(&progress, b"")
+    recover_end(progress_in(answer), b"")
+}
+
+/// The progress of an answer.
+fn progress_in(answer: &[usize; 5]) -> &[usize; 4] {
+    answer.last_chunk().expect("four of five")
 }
 
 /// The same through the plain call.
@@ -118,9 +128,9 @@ fn by_line(name: &str, text: &[u8], rounds: Rounds) {
 pub fn recoverings() {
     for clocks in CLOCKS {
         let bytes = 2 * clocks + 6;
-        let idle = waiting(b"", clocks, b"");
-        whole(&format!("recover, waiting in Run-Test/Idle, lines of {bytes} bytes"), &idle, LONG);
-        by_line(&format!("recover_line, waiting in Run-Test/Idle, {bytes} bytes"), &idle, LONG);
+        let (long, short) = (idle_lines(BYTES, clocks), idle_lines(CACHED, clocks));
+        whole(&format!("recover, waiting in Run-Test/Idle, lines of {bytes} bytes"), &long, LONG);
+        by_line(&format!("recover_line, waiting in Run-Test/Idle, {bytes} bytes"), &short, SHORT);
     }
     let pause = waiting(b"clk\t10010\t00010\n", 37, b"clk\t110\t000\n");
     whole("recover, waiting in Pause-DR, lines of 80 bytes", &pause, LONG);
