@@ -3,15 +3,16 @@
 use mathlib.Core.Path.{_≡_, refl, ap, _∙_, subst}
 use mathlib.Core.Bool.{not}
 use mathlib.Core.Option.{Option, none, some}
-use mathlib.Core.List.{List, [], _∷_, List·Memᴰ, List·Memᴰ·head, List·Memᴰ·tail}
+use mathlib.Core.List.{List, [], _∷_, _++_, List·Memᴰ, List·Memᴰ·head, List·Memᴰ·tail}
 use Prim.Native.Nat.{ℕ, suc, _+_}
 use lib.ListN.{length}
 use lib.Dec.{leb, ltb}
-use Rattle.model.specs.Network.{totalBits, lenOf, isSteering}
-use Rattle.model.specs.NetworkText.{Line, node, out, hold, target, lineOf, Draft, hasOut, outside, badReset, withNode, addNode, firstBad, withOut, outIf, addOut, fitsBits, isHeld, withHold, addHold, targetSegment, fitsTarget, isTarget, withTarget, addTarget, addLine, atEnd, readLines}
+use Rattle.model.specs.Network.{Network, totalBits, lenOf, isSteering}
+use Rattle.model.specs.NetworkText.{Line, node, out, hold, target, lineOf, Draft, hasOut, outside, badReset, withNode, addNode, firstBad, withOut, outIf, addOut, fitsBits, isHeld, withHold, addHold, targetSegment, fitsTarget, isTarget, withTarget, addTarget, addLine, atEnd, readLines, noLines}
 use Rattle.model.specs.Result.{Result, ok, andThen}
-use Rattle.model.specs.Text.{Bytes, ended}
+use Rattle.model.specs.Text.{Bytes, lineEnd, parts, ended, linesOf}
 use Rattle.model.proofs.Lists.{not-ok, ok-is, handed, passed-test}
+use Rattle.model.proofs.Reading.{Source}
 
 -- ---- the ended lines in turn
 
@@ -30,6 +31,24 @@ ended-read (l ∷ []) d n r e = last l e
 ended-read (l ∷ m ∷ ls) d n r e =
     let h = handed (addLine d n (lineOf l)) _ r e in
     ap (λ (x : Result Draft). andThen x (λ y. addAll y (suc n) (ended (m ∷ ls)))) (h .given) ∙ ended-read (m ∷ ls) (h .value) (suc n) r (h .then)
+
+pub read-ended : (ls : List Bytes) (d : Draft) (n : ℕ) → readLines d n (ls ++ [] ∷ []) ≡ addAll d n ls
+unfolding readLines addAll
+read-ended [] d n = refl
+read-ended (l ∷ []) d n = λ i. andThen (addLine d n (lineOf l)) (λ e. read-ended [] e (suc n) i)
+read-ended (l ∷ m ∷ ls) d n = λ i. andThen (addLine d n (lineOf l)) (λ e. read-ended (m ∷ ls) e (suc n) i)
+
+-- lines, and lines behind them
+pub add-append : (ls ms : List Bytes) (d e : Draft) (n m : ℕ) → addAll d n ls ≡ ok (m, e) → addAll d n (ls ++ ms) ≡ addAll e m ms
+unfolding addAll
+add-append [] ms d e n m g = ap (λ (r : ℕ × Draft). addAll (r .1) (r .0) ms) (ok-is g)
+add-append (l ∷ ls) ms d e n m g =
+    let h = handed (addLine d n (lineOf l)) _ (m, e) g in
+    ap (λ (x : Result Draft). andThen x (λ y. addAll y (suc n) (ls ++ ms))) (h .given) ∙ add-append ls ms (h .value) e (suc n) m (h .then)
+
+-- the lines of an accepted text
+pub lines-added : (t : Bytes) (net : Network) (a : Source t net) → addAll noLines 1 (linesOf t) ≡ ok (a .behind, a .draft)
+lines-added t net a = ended-read (parts lineEnd t) noLines 1 (a .behind, a .draft) (a .lines)
 
 -- ---- what a line that is not refused does
 

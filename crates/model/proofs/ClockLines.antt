@@ -3,7 +3,7 @@
 use mathlib.Core.Path.{_≡_, refl, sym, ap, _∙_, subst}
 use mathlib.Core.Bool.{Bool, true, false, _&&_}
 use mathlib.Core.Option.{none, some}
-use mathlib.Core.List.{List, [], _∷_, _++_, map, append-assoc, append-nil}
+use mathlib.Core.List.{List, [], _∷_, _++_, map, append-nil}
 use Prim.Native.Nat.{ℕ, suc, _+_, _≤_, _<_}
 use native.Mathlib.Omega.{arith}
 use lib.ListN.{length, take, length-append, length-map}
@@ -14,13 +14,14 @@ use Rattle.model.specs.ClockText.{pinBits, paired, clkForm, clkLine}
 use Rattle.model.specs.Limits.{maxLineBytes}
 use Rattle.model.specs.NetworkText.{field}
 use Rattle.model.specs.PlanText.{scanBits}
-use Rattle.model.specs.Printed.{fieldsOf, line, pins}
+use Rattle.model.specs.Printed.{line, pins}
 use Rattle.model.specs.Recovered.{ClkLineOf, ClkLineExact}
 use Rattle.model.specs.Tap.{Clock, bitByte}
-use Rattle.model.specs.Text.{Bytes, bytes, tab, lineEnd, parts, fields, same}
+use Rattle.model.specs.Text.{Bytes, bytes, tab, lineEnd, fields, same}
+use Rattle.model.proofs.FieldLines.{twoFields, two-fields, two-free, two-length, two-printed}
 use Rattle.model.proofs.LineForms.{bound, if-some}
 use Rattle.model.proofs.Lists.{eqb-is, true-false, and-parts, none-some, some-same}
-use Rattle.model.proofs.PlanTexts.{joined, parts-joined, Free, parts-line, bits-free, no-end, scan-written, scan-bytes, same-is}
+use Rattle.model.proofs.PlanTexts.{joined, parts-joined, Free, bits-free, no-end, scan-written, scan-bytes, same-is}
 
 abbrev pub tmsOf : Clock → Bool
 tmsOf c = c .tms
@@ -30,7 +31,7 @@ tdiOf c = c .tdi
 
 -- the line, without its byte 10
 abbrev pub clkText : List Clock → Bytes
-clkText cs = bytes "clk" ++ tab ∷ (pins tmsOf cs ++ tab ∷ pins tdiOf cs)
+clkText cs = twoFields (bytes "clk") (pins tmsOf cs) (pins tdiOf cs)
 
 -- ---- a row of bits
 
@@ -85,22 +86,11 @@ pairs (m ∷ ms) (d ∷ ds) cs e =
 
 -- ---- the line
 
-pub parts-free : (sep : ℕ) (l : Bytes) → Free sep l → parts sep l ≡ l ∷ []
-unfolding parts
-parts-free sep [] f = refl
-parts-free sep (b ∷ l) f = rw (f .0, parts-free sep l (f .1))
-
 clk-fields : (cs : List Clock) → fields (clkText cs) ≡ bytes "clk" ∷ pins tmsOf cs ∷ pins tdiOf cs ∷ []
-clk-fields cs =
-    parts-line tab (bytes "clk") (pins tmsOf cs ++ tab ∷ pins tdiOf cs) (refl, (refl, (refl, tt)))
-    ∙ ap (λ (x : List Bytes). bytes "clk" ∷ x)
-    (parts-line tab (pins tmsOf cs) (pins tdiOf cs) (pins-free tab no-tab tmsOf cs)
-    ∙ ap (λ (x : List Bytes). pins tmsOf cs ∷ x) (parts-free tab (pins tdiOf cs) (pins-free tab no-tab tdiOf cs)))
+clk-fields cs = two-fields (bytes "clk") (pins tmsOf cs) (pins tdiOf cs) (refl, (refl, (refl, tt))) (pins-free tab no-tab tmsOf cs) (pins-free tab no-tab tdiOf cs)
 
 pub length-clk : (cs : List Clock) → length (clkText cs) ≡ 5 + (length cs + length cs)
-length-clk cs =
-    let a : length (pins tmsOf cs ++ tab ∷ pins tdiOf cs) ≡ length (pins tmsOf cs) + suc (length (pins tdiOf cs)) = length-append (pins tmsOf cs) (tab ∷ pins tdiOf cs) in
-    omega (arith, length-pins tmsOf cs, length-pins tdiOf cs)
+length-clk cs = two-length (bytes "clk") (pins tmsOf cs) (pins tdiOf cs) ∙ omega (arith, length-pins tmsOf cs, length-pins tdiOf cs)
 
 -- its line has this form, with at least one clock, and with its byte 10 it is not too long
 pub record ClkText (l : Bytes) (cs : List Clock) : Type 0 where
@@ -152,19 +142,10 @@ too-long l h = rw (le-ltb (length l) maxLineBytes h)
 -- ---- as the clock program prints it
 
 pub clk-free : (cs : List Clock) → Free lineEnd (clkText cs)
-clk-free cs = (refl, (refl, (refl, (refl, go (pins tmsOf cs) (pins-free lineEnd no-end tmsOf cs)))))
-  where
-    go : (l : Bytes) → Free lineEnd l → Free lineEnd (l ++ tab ∷ pins tdiOf cs)
-    go [] f = (refl, pins-free lineEnd no-end tdiOf cs)
-    go (b ∷ l) f = (f .0, go l (f .1))
+clk-free cs = two-free (bytes "clk") (pins tmsOf cs) (pins tdiOf cs) (refl, (refl, (refl, tt))) (pins-free lineEnd no-end tmsOf cs) (pins-free lineEnd no-end tdiOf cs)
 
 pub printed-line : (cs : List Clock) (rest : Bytes) → line "clk" (pins tmsOf cs ∷ pins tdiOf cs ∷ []) ++ rest ≡ clkText cs ++ lineEnd ∷ rest
-unfolding fieldsOf
-printed-line cs rest =
-    ap (λ (x : Bytes). bytes "clk" ++ tab ∷ x)
-    (append-assoc (pins tmsOf cs) (tab ∷ (pins tdiOf cs ++ lineEnd ∷ [])) rest
-    ∙ ap (λ (x : Bytes). pins tmsOf cs ++ tab ∷ x) (append-assoc (pins tdiOf cs) (lineEnd ∷ []) rest)
-    ∙ sym (append-assoc (pins tmsOf cs) (tab ∷ pins tdiOf cs) (lineEnd ∷ rest)))
+printed-line cs rest = two-printed (bytes "clk") (pins tmsOf cs) (pins tdiOf cs) rest
 
 same-before : (a b : Bytes) (x : ℕ) → a ++ x ∷ [] ≡ b ++ x ∷ [] → a ≡ b
 same-before a b x e =

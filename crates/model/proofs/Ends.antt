@@ -7,6 +7,7 @@ use Prim.Native.Nat.{ℕ, suc, _+_, _-_}
 use native.Mathlib.Omega.{arith}
 use lib.ListN.{length, drop, length-drop}
 use lib.Seq.{drop-cons}
+use Rattle.model.specs.Calls.{countOf}
 use Rattle.model.specs.Network.{at}
 use Rattle.model.specs.Places.{behindLines, IsLine, RefusalRows, Listed}
 use Rattle.model.specs.Result.{Result, ok, refused, refuseIf, andThen}
@@ -36,6 +37,11 @@ pub ends-more : {A : Type 0} {rows more : RefusalRows} {P : A → Type 0} {r : R
     → Ends rows P r → Ends more P r
 ends-more f (gives p) = gives p
 ends-more f (refuses row) = refuses (f _ _ row)
+
+-- the count of what a call gives
+pub count-ends : {rows : RefusalRows} {P : List ℕ → Type 0} {r : Result (List ℕ)} → Ends rows P r → Ends rows (λ (n : ℕ). Unit {0}) (countOf r)
+count-ends (gives p) = gives tt
+count-ends (refuses row) = refuses row
 
 -- ---- the lines of a text in turn
 

@@ -15,7 +15,7 @@ use Rattle.model.specs.RecoverDemands.{joinedParts, InParts, HeldShort}
 use Rattle.model.specs.Result.{Result, ok, refused, andThen}
 use Rattle.model.specs.Text.{Bytes, parts, ended, lineEnd}
 use Rattle.model.proofs.CallCases.{row-taken}
-use Rattle.model.proofs.ClockLines.{parts-free}
+use Rattle.model.proofs.FieldLines.{parts-free}
 use Rattle.model.proofs.LineByLine.{text-written, line-by-line}
 use Rattle.model.proofs.Lists.{ok-is}
 use Rattle.model.proofs.PlanTexts.{Free}

@@ -1,6 +1,6 @@
 -- Document 02, Change 1: a text without RESET is read as before.
 -- Assumes nothing.
-use mathlib.Core.Path.{_≡_, refl, sym, ap, _∙_, subst}
+use mathlib.Core.Path.{_≡_, refl, sym, ap, _∙_}
 use mathlib.Core.Bool.{Bool, true, false}
 use mathlib.Core.Option.{Option, none, some}
 use mathlib.Core.List.{List, [], _∷_, List·Memᴰ, List·Memᴰ·head, List·Memᴰ·tail, List·Memᴰ·not-nil}
@@ -17,7 +17,7 @@ use Rattle.model.specs.Result.{Result, ok, refused, refuseIf, andThen}
 use Rattle.model.specs.Text.{Bytes, bytes, bind, same, parts, fields, ended, linesOf, lineEnd, LineWord, Seg, Mux, Out, Hold, Write, Read, Csu, wordOf}
 use Rattle.model.proofs.AddedLines.{ended-read, afterLine, all-keep}
 use Rattle.model.proofs.LineForms.{line-form}
-use Rattle.model.proofs.Lists.{eqb-below, and-false-right, true-false, some-same, not-ok, handed, passed-test}
+use Rattle.model.proofs.Lists.{eqb-below, and-false-right, true-false, some-same, not-ok, handed, passed-test, every-in}
 
 -- ---- one line
 
@@ -79,11 +79,12 @@ four-of n lo hi f = go (ltb n 5) refl
 
 no-reset : (l : Bytes) → Old l → (line : Line) → lineOf l ≡ some line → NoReset line
 no-reset l old = line-form NoReset l record {
-  of-seg = λ from len shadow v w lo hi e. sym (some-same none v (ap resetField (sym (none-behind (fields l) (four-of (length (fields l)) lo hi (old w)))) ∙ e));
-  of-mux = λ s b ins lo hi. refl;
-  of-out = λ n. tt;
-  of-hold = λ s bs. tt;
-  of-target = λ t. tt;
+  of-seg = λ from len shadow v f. sym (some-same none v (ap resetField (sym (none-behind (fields l) (four-of (length (fields l)) (f .least) (f .most) (old (f .word))))) ∙ f .of-reset));
+  of-mux = λ s b ins f. refl;
+  of-out = λ n f. tt;
+  of-hold = λ s bs f. tt;
+  of-write = λ s bs f. tt;
+  of-read = λ s f. tt;
 }
 
 add-before : (d : Draft) (n : ℕ) (o : Option Line) → ((line : Line) → o ≡ some line → NoReset line) → addLine d n o ≡ addLineWithoutReset d n o
@@ -161,14 +162,6 @@ accepted-as-before t net e =
 
 -- ---- a text that `read-as-before` speaks of: A of document 01
 
-abbrev Each : (Bytes → Type 0) → List Bytes → Type 0
-Each P [] = Unit {0}
-Each P (l ∷ ls) = P l × Each P ls
-
-each-in : (P : Bytes → Type 0) (ls : List Bytes) → Each P ls → (l : Bytes) → List·Memᴰ l ls → P l
-each-in P (k ∷ ls) f l (List·Memᴰ·head e) = subst P (sym e) (f .0)
-each-in P (k ∷ ls) f l (List·Memᴰ·tail m) = each-in P ls (f .1) l m
-
 abbrev isSeg : LineWord → Bool
 isSeg Seg = true
 isSeg Mux = false
@@ -183,4 +176,4 @@ no-seg w f e q = absurd (true-false (sym (ap isSeg (some-same w Seg e)) ∙ f))
 
 pub old-form-met : OldForm (bytes A)
 unfolding parts wordOf same
-old-form-met = each-in Old (linesOf (bytes A)) (λ e q. omega arith, (no-seg Mux refl, (λ e q. omega arith, (no-seg Out refl, (no-seg Write refl, tt)))))
+old-form-met = every-in Old (linesOf (bytes A)) (λ e q. omega arith, (no-seg Mux refl, (λ e q. omega arith, (no-seg Out refl, (no-seg Write refl, tt)))))

@@ -9,8 +9,7 @@ use native.Mathlib.Omega.{arith}
 use lib.ListN.{length, take, drop, getD, length-append, length-drop, List·getD-append}
 use lib.Seq.{length-take-le, getD-take, getD-drop, getD-append-add}
 use borrow.Author.Tests.{le-ltb}
-use Rattle.model.specs.Calls.{writeOver, written, countOf, ifRoom, textOf}
-use Rattle.model.specs.Demands.{OnlyFirst}
+use Rattle.model.specs.Calls.{writeOver, ifRoom, textOf}
 use Rattle.model.specs.Plan.{Plan}
 use Rattle.model.specs.PlanText.{writePlan}
 use Rattle.model.specs.Recover.{recover}
@@ -19,7 +18,7 @@ use Rattle.model.specs.RecoverDemands.{RecoverBufferKept, LineBufferKept
 use Rattle.model.specs.Result.{Result, ok, refused, andThen}
 use Rattle.model.specs.Text.{Bytes}
 use Rattle.model.proofs.CallCases.{room-fits}
-use Rattle.model.proofs.LentBuffers.{only-first}
+use Rattle.model.proofs.LentBuffers.{only-first, kept-if-refused, written-if-given}
 use Rattle.model.proofs.Lists.{not-ok, ok-is, handed}
 use Rattle.model.proofs.StepDone.{step-done, LineCase, refuses, steps, line-case}
 
@@ -37,21 +36,14 @@ module _ (t : Bytes) (orig : List ℕ) where
 
 pub recover-buffer-kept : RecoverBufferKept
 unfolding recoverText
-recover-buffer-kept t plan number place e = go (recovered t (length plan)) e
-  where
-    go : (r : Result (List ℕ)) → countOf r ≡ refused number place → written r plan ≡ plan
-    go (ok text) q = absurd (not-ok (sym q))
-    go (refused a b) q = refl
+recover-buffer-kept t plan number place e = kept-if-refused (recovered t (length plan)) plan number place e
 
 pub recover-buffer-written : RecoverBufferWritten
 unfolding recoverText
-recover-buffer-written t plan count e = go (recovered t (length plan)) refl e
+recover-buffer-written t plan count e = written-if-given (recovered t (length plan)) plan count fits e
   where
-    go : (r : Result (List ℕ)) → recovered t (length plan) ≡ r → countOf r ≡ ok count → OnlyFirst count plan (written r plan)
-    go (refused a b) f q = absurd (not-ok q)
-    go (ok text) f q =
-        let h = handed (andThen (recover t) textOf) (ifRoom (length plan)) text f in
-        only-first text plan count (ok-is q) (room-fits (length plan) (h .value) text (h .then))
+    fits : (text : List ℕ) → recovered t (length plan) ≡ ok text → length text ≤ length plan
+    fits text f = let h = handed (andThen (recover t) textOf) (ifRoom (length plan)) text f in room-fits (length plan) (h .value) text (h .then)
 
 -- ---- the call for a line
 

@@ -11,7 +11,7 @@ use lib.ListN.{length, drop}
 use lib.Seq.{drop-nil}
 use lib.Dec.{eqb, ltb}
 use borrow.Author.Tests.{ltb-true}
-use Rattle.model.specs.Calls.{countOf, ifRoom, textOf}
+use Rattle.model.specs.Calls.{ifRoom, textOf}
 use Rattle.model.specs.ClockText.{clkLine}
 use Rattle.model.specs.Limits.{maxPlanBytes}
 use Rattle.model.specs.NetworkText.{atEnd}
@@ -23,7 +23,7 @@ use Rattle.model.specs.Refusals as refusal
 use Rattle.model.specs.Result.{Result, ok, refused, andThen}
 use Rattle.model.specs.Tap.{idle, isIn, stateNumber}
 use Rattle.model.specs.Text.{Bytes, bind, lineEnd, parts}
-use Rattle.model.proofs.Ends.{Ends, gives, refuses, listed, ends-if, ends-then, ends-more, line-at, is-line}
+use Rattle.model.proofs.Ends.{Ends, gives, refuses, listed, ends-if, ends-then, ends-more, count-ends, line-at, is-line}
 use Rattle.model.proofs.Lists.{true-false}
 use Rattle.model.proofs.PlanTexts.{parts-more}
 use Rattle.model.proofs.StepDone.{step-done}
@@ -83,10 +83,6 @@ module _ (t : Bytes) where
       where
         text-ends : Ends (ClockTextRefusal t or ShortPlan plan) (λ (text : List ℕ). length text ≤ maxPlanBytes) (andThen (recover t) textOf)
         text-ends = ends-then textOf (ends-more (λ a b row. inl row) recover-ends) (λ p e x. gives (recovered-short t p e))
-
-count-ends : {rows : RefusalRows} {r : Result (List ℕ)} → Ended rows r → Ended rows (countOf r)
-count-ends (gives x) = gives tt
-count-ends (refuses row) = refuses row
 
 -- ---- one line
 

@@ -27,11 +27,12 @@ Reads l (target t) = Unit {0}
 
 reads : (l : Bytes) (line : Line) → lineOf l ≡ some line → Reads l line
 reads l = line-form (Reads l) l record {
-  of-seg = λ from len shadow v w lo hi e. written (fields l) v lo hi e;
-  of-mux = λ s b ins lo hi. tt;
-  of-out = λ n. tt;
-  of-hold = λ s bs. tt;
-  of-target = λ t. tt;
+  of-seg = λ from len shadow v f. written (fields l) v (f .least) (f .most) (f .of-reset);
+  of-mux = λ s b ins f. tt;
+  of-out = λ n f. tt;
+  of-hold = λ s bs f. tt;
+  of-write = λ s bs f. tt;
+  of-read = λ s f. tt;
 }
 
 pub resets-read : ResetsRead

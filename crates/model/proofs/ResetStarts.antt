@@ -14,8 +14,8 @@ use Rattle.model.specs.Network.{Node, Network, at, noNode, isSegment, le
 use Rattle.model.specs.NetworkText.{Reset, Line, node, out, hold, target, lineOf, Draft, hasOut, withNode, addNode, fitsBits, isHeld, addHold, addLine, noLines}
 use Rattle.model.specs.Resets.{NotHeld, ResetStarts}
 use Rattle.model.specs.Result.{ok}
-use Rattle.model.specs.Text.{Bytes, parts, same, wordOf, linesOf, lineEnd, Trit}
-use Rattle.model.proofs.AddedLines.{addAll, ended-read, afterLine, added, all-keep}
+use Rattle.model.specs.Text.{Bytes, parts, same, wordOf, linesOf, Trit}
+use Rattle.model.proofs.AddedLines.{addAll, lines-added, afterLine, added, all-keep}
 use Rattle.model.proofs.HeldBits.{held-append, held-one, held-other, held-free, none-for}
 use Rattle.model.proofs.Lists.{true-false, and-parts, none-some, ok-is, handed, passed-test, at-mapFrom}
 use Rattle.model.proofs.Reading.{at-before, has-none, sound-line, sound-start, Source, source}
@@ -150,9 +150,6 @@ module _ (t : Bytes) (net : Network) (a : Source t net) where
   abbrev silentAt : ℕ → List Trit
   silentAt s = silentBits (net .nodes) s (lenOf (at (net .nodes) s noNode))
 
-  adds : addAll noLines 1 (linesOf t) ≡ ok (a .behind, a .draft)
-  adds = ended-read (parts lineEnd t) noLines 1 (a .behind, a .draft) (a .lines)
-
   row-at : (s : ℕ) → 1 ≤ s → s ≤ length (a .draft .nodes) → at (net .start) s [] ≡ heldOr (heldOr (silentAt s) (a .draft .resets) s) (a .draft .holds) s
   unfolding startOf
   row-at s lo hi =
@@ -165,13 +162,13 @@ module _ (t : Bytes) (net : Network) (a : Source t net) where
   from-line zero x v e f = absurd (empty-line (node x v) e)
   from-line (suc i) x v e f =
       let w : ResetAs (suc i) x v (a .draft) = subst (λ (j : ℕ). ResetAs j x v (a .draft)) (let q : 1 + i ≡ suc i = omega arith in q)
-      (node-line (linesOf t) i noLines 1 (a .behind, a .draft) adds sound-start x v e) in
-      row-at (suc i) (omega arith) (w .among) ∙ not-held (linesOf t) (suc i) f noLines 1 (a .behind, a .draft) adds _ refl ∙ w .gives (silentAt (suc i))
+      (node-line (linesOf t) i noLines 1 (a .behind, a .draft) (lines-added t net a) sound-start x v e) in
+      row-at (suc i) (omega arith) (w .among) ∙ not-held (linesOf t) (suc i) f noLines 1 (a .behind, a .draft) (lines-added t net a) _ refl ∙ w .gives (silentAt (suc i))
       ∙ ap (λ (y : Node). resetOr (silentBits (net .nodes) (suc i) (lenOf y)) v) (ap (λ (z : Network). at (z .nodes) (suc i) noNode) (sym (a .is)) ∙ w .is)
 
   from-hold : (l : Bytes) (s : ℕ) (bs : List Trit) → List·Memᴰ l (linesOf t) → lineOf l ≡ some (hold s bs) → at (net .start) s [] ≡ bs
   from-hold l s bs m e =
-      let h = hold-line (linesOf t) noLines 1 (a .behind, a .draft) adds l s bs m e in
+      let h = hold-line (linesOf t) noLines 1 (a .behind, a .draft) (lines-added t net a) l s bs m e in
       row-at s (h .least) (h .among) ∙ h .gives _
 
 pub reset-starts : ResetStarts

@@ -1,8 +1,8 @@
 -- A text that comes in two parts: its lines are those of the first part, then those of what stands behind them with the second part.
 -- Assumes nothing.
-use mathlib.Core.Path.{_≡_, refl, ap}
+use mathlib.Core.Path.{_≡_, refl, ap, _∙_}
 use mathlib.Core.Bool.{Bool, true, false, cond}
-use mathlib.Core.List.{List, [], _∷_, _++_}
+use mathlib.Core.List.{List, [], _∷_, _++_, append-nil}
 use Prim.Native.Nat.{ℕ, _+_, _≤_}
 use native.Mathlib.Omega.{arith}
 use lib.ListN.{length}
@@ -69,3 +69,7 @@ pub behind-append : (before : List Bytes) (l : Bytes) (ls : List Bytes) → behi
 behind-append [] l ls = refl
 behind-append (k ∷ []) l ls = refl
 behind-append (k ∷ j ∷ before) l ls = behind-append (j ∷ before) l ls
+
+-- lines that a separator ends each
+pub ended-all : (ls : List Bytes) → ended (ls ++ [] ∷ []) ≡ ls
+ended-all ls = ended-append ls [] [] ∙ append-nil ls

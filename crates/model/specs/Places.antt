@@ -7,7 +7,7 @@ use mathlib.Core.Logic.{_⊎_}
 use mathlib.Core.List.{List, []}
 use Prim.Native.Nat.{ℕ, suc, _≤_, _<_}
 use lib.ListN.{length}
-use Rattle.model.specs.Limits.{maxTargets, maxNetworkBytes, maxOperations, maxPlanBytes, maxSteeringBits, searchSize}
+use Rattle.model.specs.Limits.{maxTargets, maxNetworkBytes, maxOperations, maxPlanBytes, maxHoldBytes, maxSteeringBits, searchSize}
 use Rattle.model.specs.Refusals as refusal
 use Rattle.model.specs.Result.{Result, ok, refused}
 use Rattle.model.specs.Text.{Bytes, lineEnd, parts, Trit}
@@ -147,3 +147,7 @@ pub data ClockLineRefusal (p : Progress) : ℕ → ℕ → Type 0 where
 -- "13, bytes needed | buffer for plan .. too short"
 pub data ShortPlan (plan : List ℕ) : ℕ → ℕ → Type 0 where
   short-for : {needed : ℕ} → length plan < needed → needed ≤ maxPlanBytes → ShortPlan plan refusal.buffer needed
+
+-- "13, bytes needed", of a buffer for `hold` lines
+pub data ShortHolds (holds : List ℕ) : ℕ → ℕ → Type 0 where
+  short-of : {needed : ℕ} → length holds < needed → needed ≤ maxHoldBytes → ShortHolds holds refusal.buffer needed
