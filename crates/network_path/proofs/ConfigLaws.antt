@@ -103,7 +103,7 @@ module _ (ns : List ℕ) (count : ℕ) (most : count ≤ 128)
   node-at : (k : ℕ) → 1 ≤ k → k ≤ count → at (nodesOf ns count) k noNode ≡ nodeAt ns k
   node-at k a b = at-tabulate (nodeAt ns) count k noNode a b
 
-  good-at : (k : ℕ) → 1 ≤ k → k ≤ count → GoodNode (nodesOf ns count) k (nodeAt ns k)
+  pub good-at : (k : ℕ) → 1 ≤ k → k ≤ count → GoodNode (nodesOf ns count) k (nodeAt ns k)
   good-at zero a b = absurd (not-suc-le-zero a)
   good-at (suc n) a b = subst (GoodNode (nodesOf ns count) (suc n)) (node-at (suc n) a b) (good n (omega (arith, long)))
 

@@ -1,21 +1,22 @@
--- Laws for the callers of a network that the arrays hold: what `find_path` asks and answers.
+-- Laws for the callers of a network that the arrays hold: their lengths, and what `find_path` asks and answers.
 -- Assumes nothing.
 use mathlib.Core.Path.{_≡_, ap, subst, _∙_}
 use mathlib.Core.List.{List}
 use Prim.Native.Nat.{ℕ, suc, _<_, _≤_}
 use native.Mathlib.Omega.{arith}
 use lib.ListN.{length, getD, take}
-use Rattle.model.specs.Network.{Node, Network, noNode}
+use Rattle.model.specs.Network.{Node, Network, noNode, lenOf}
 use Rattle.model.specs.Path.{path, stop, bitOf, walk, walkFrom, nodeOf, pathOf}
 use Rattle.model.specs.Accepted.{GoodNode}
 use Rattle.model.proofs.Lists.{length-tabulate}
 use Rattle.model.proofs.Walking.{valid-by}
+use Rattle.network_words.specs.Words.{wordWidth}
 use Rattle.network_path.specs.Layout.{nodeAt, nodesOf, configOf, scanPath}
 use Rattle.network_path.specs.Stored.{Stored, PathFound}
 use Rattle.network_path.specs.Answers.{Walkable, told, WalkHeld, FindsPath}
 use Rattle.network_path.specs.declared.walk.Walked.{Walked}
 use Rattle.network_path.specs.declared.walk.Walked.the-variants.{Path, Stop as Stopped}
-use Rattle.network_path.proofs.ConfigLaws.{good-safe, found-config}
+use Rattle.network_path.proofs.ConfigLaws.{good-at, good-most, good-safe, found-config}
 
 module _ (net : Network) (ns : List ℕ) (count out : ℕ) (st : Stored net ns count out) where
   stored-good : (n : ℕ) → n < length (nodesOf ns count) → GoodNode (nodesOf ns count) (suc n) (getD (nodesOf ns count) n noNode)
@@ -23,6 +24,9 @@ module _ (net : Network) (ns : List ℕ) (count out : ℕ) (st : Stored net ns c
 
   stored-out : out ≤ count
   stored-out = omega (arith, st .feeds, st .formed .ends, ap length (st .nodes), length-tabulate (nodeAt ns) 1 count)
+
+  pub stored-short : (s : ℕ) → 1 ≤ s → s ≤ count → lenOf (nodeAt ns s) ≤ wordWidth
+  stored-short s a b = good-most (nodesOf ns count) s (nodeAt ns s) (good-at ns count (st .most) stored-good s a b)
 
   -- what `find_path` asks
   pub stored-walkable : (way : List ℕ) → length way ≡ 128 → Walkable ns out way 0

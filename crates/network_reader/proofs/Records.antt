@@ -13,11 +13,11 @@ use Rattle.model.specs.Text.{Bytes}
 use Rattle.model.specs.Network.{Node, at, noNode, isSegment, lenOf, tabulate}
 use Rattle.model.specs.NetworkText.{readNetwork}
 use Rattle.model.specs.Accepted.{Accepted}
-use Rattle.model.proofs.Lists.{true-false, length-tabulate}
+use Rattle.model.proofs.Lists.{true-false}
 use Rattle.model.proofs.Accepted.{accepted}
 use Rattle.network_words.specs.Words.{wordWidth}
 use Rattle.network_path.specs.Layout.{nodeAt, nodesOf}
-use Rattle.network_path.proofs.ConfigLaws.{good-most}
+use Rattle.network_path.proofs.StoredLaws.{stored-short}
 use Rattle.network_path.specs.Stored.{Stored}
 use Rattle.network_reader.specs.declared.reader.Network.{Network}
 use Rattle.network_reader.specs.declared.reader.Reading.{Reading}
@@ -25,7 +25,7 @@ use Rattle.network_reader.specs.declared.reader.Acceptance.{Acceptance}
 use Rattle.network_reader.specs.declared.reader.Acceptance.the-variants.{Accepted as Passed, Refused as Rejected}
 use Rattle.network_draft.specs.Represents.{targetAt}
 use Rattle.network_reader.specs.Reads.{recordedNetwork, readingBy, RecordComplete, RecordCompleteIf, IsReading}
-use Rattle.network_draft.proofs.BadAddresses.{node-in, node-zero, node-beyond}
+use Rattle.network_draft.proofs.BadAddresses.{node-zero, node-beyond}
 use Rattle.network_draft.proofs.TargetLaws.{fits-segment, target-names}
 
 pub record Recorded (t : Bytes) (r : Network) : Type 0 where
@@ -63,12 +63,6 @@ module _ (t : Bytes) (r : Network) (c : Recorded t r) where
   abbrev ns : List Node
   ns = nodesOf (r .nodes) (r .summary .count)
 
-  short-node : (s : ℕ) → 1 ≤ s → s ≤ r .summary .count → lenOf (nodeAt (r .nodes) s) ≤ wordWidth
-  short-node zero a b = absurd (omega arith)
-  short-node (suc n) a b =
-      subst (λ (x : Node). lenOf x ≤ wordWidth) (node-in (r .nodes) (r .summary .count) (suc n) a b)
-      (good-most ns (suc n) (getD ns n noNode) (c .net .wf .backwards n (omega (arith, length-tabulate (nodeAt (r .nodes)) 1 (r .summary .count)))))
-
   target-is : (i : ℕ) → i < r .summary .«target_count» → isSegment (at ns (getD (r .summary .«target_segment») i 0) noNode) ≡ true
   target-is i lt =
       let m = tabulate-in (targetAt (r .nodes) (r .summary)) 0 (r .summary .«target_count») i lt in
@@ -85,4 +79,4 @@ module _ (t : Bytes) (r : Network) (c : Recorded t r) where
           go : Dec (s < 1) → Dec (r .summary .count < s) → TargetSegment (r .nodes) (r .summary .count) s
           go (yes h) d = absurd (true-false (sym e ∙ ap isSegment (node-zero (r .nodes) (r .summary .count) s h)))
           go (no h) (yes l) = absurd (true-false (sym e ∙ ap isSegment (node-beyond (r .nodes) (r .summary .count) s l)))
-          go (no h) (no l) = record { least = omega arith; most = omega arith; short = short-node s (omega arith) (omega arith) }
+          go (no h) (no l) = record { least = omega arith; most = omega arith; short = stored-short _ _ _ _ (c .stored) s (omega arith) (omega arith) }
