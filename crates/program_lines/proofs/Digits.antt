@@ -1,14 +1,14 @@
 -- The digits of a number, written from the lowest on.
 -- Assumes nothing.
-use mathlib.Core.Path.{_≡_, sym, ap, _∙_}
-use mathlib.Core.Bool.{true, false}
+use mathlib.Core.Path.{_≡_, refl, sym, ap, _∙_}
+use mathlib.Core.Bool.{Bool, true, false}
 use mathlib.Core.List.{List, [], _∷_}
 use Prim.Native.Nat.{ℕ, zero, suc, _+_, _*_, _/_, _%_, _-_, _≤_, _<_}
 use native.Mathlib.Omega.{arith}
 use lib.Dec.{ltb}
 use lib.ListN.{length, take, drop, set, length-set, length-drop, drop-of-length-le}
 use lib.Seq.{drop-cons, getD-set-same, drop-set-lt, take-all}
-use borrow.Author.Tests.{lt-ltb, le-ltb}
+use borrow.Author.Tests.{ltb-false, lt-ltb, le-ltb}
 use Rattle.model.specs.Text.{Bytes}
 use Rattle.model.specs.Printed.{digitsOf, number}
 
@@ -88,5 +88,24 @@ module _ (n i : ℕ) (b : List ℕ) (size : length b ≡ 20) (e : drop i b ≡ n
   pub part-is : take (20 - i) (drop i b) ≡ number n
   part-is = take-all (20 - i) (drop i b) (omega (arith, length-drop i b)) ∙ e
 
+  pub count-is : 20 - i ≡ length (number n)
+  count-is = omega (arith, ap length e, length-drop i b)
+
   pub few-digits : length (number n) ≤ 20
   few-digits = omega (arith, ap length e, length-drop i b)
+
+-- ---- at most 20 digits
+
+few-before : (f k n : ℕ) (rest : Bytes) → n < power k → 1 ≤ k → length (digitsOf f n rest) ≤ k + length rest
+unfolding digitsOf
+few-before zero k n rest l h = omega arith
+few-before (suc f) k n rest l h = go (ltb n 10) refl (few-before f (k - 1) (n / 10) ((48 + n % 10) ∷ rest))
+  where
+    go : (b : Bool) → ltb n 10 ≡ b → (n / 10 < power (k - 1) → 1 ≤ k - 1 → length (digitsOf f (n / 10) ((48 + n % 10) ∷ rest)) ≤ k - 1 + suc (length rest))
+        → length (digitsOf (suc f) n rest) ≤ k + length rest
+    go true e more = rw e (omega (arith, h))
+    go false e more = let w = fits-before k n l (ltb-false n 10 e) in rw e (omega (arith, more (w .1) (omega (arith, w .0)), h))
+
+pub at-most-20 : (n : ℕ) → n < 18446744073709551616 → length (number n) ≤ 20
+unfolding power
+at-most-20 n l = few-before (suc n) 20 n [] (omega (arith, l)) (omega arith)

@@ -37,9 +37,17 @@ fn fill_digits(n: usize, digits: &mut [u8; DIGITS]) -> usize
     i
 }
 
+// The count of the digits of n.
+pub fn digit_count(n: usize) -> usize
+    ensures { λ r. ⌜ r ≡ length (number n) ⌝ }
+{
+    let mut digits = [0u8; DIGITS];
+    DIGITS - fill_digits(n, &mut digits)
+}
+
 // The digits of n from a place on; the place behind them.
 pub fn put_number(out: &mut [u8], at: usize, n: usize) -> usize
-    requires { ⌜ at + 20 ≤ length (now out) ⌝ }
+    requires { ⌜ at + length (number n) ≤ length (now out) ⌝ }
     ensures { λ r. ⌜ (r ≡ at + length (number n)) × (r ≤ at + 20) ⌝ }
     ensures { λ r. ⌜ now (out .exit) ≡ writeAt at (number n) (now (out .entry)) ⌝ }
 {

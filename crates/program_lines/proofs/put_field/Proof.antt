@@ -2,6 +2,7 @@
 -- Assumes nothing.
 use native.Mathlib.Omega.{arith}
 use borrow.Author.Needs.{needs}
+use Rattle.program_lines.proofs.Digits.{at-most-20}
 use Rattle.program_lines.proofs.Parts.{puts-more}
 use Rattle.program_lines.proofs.put_field.Statement.{statement}
 use Rattle.program_lines.proofs.put_field.Tie as tie
@@ -13,7 +14,10 @@ put-requires : tie.Need-put-requires
 put-requires c κs = search needs
 
 put-number-requires : tie.Need-put-number-requires
-put-number-requires c κs = search needs
+put-number-requires c κs =
+    let s = c .before .before .before .before .before .before .before in
+    let n = at-most-20 (s .args .n) (search needs) in
+    omega (arith, n, s .pre, c .before .before .before .put .ensures .0)
 
 same-length : tie.Need-same-length
 same-length c = search needs

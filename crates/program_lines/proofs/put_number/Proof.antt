@@ -24,7 +24,11 @@ part-put-end : tie.Need-part-put-end
 part-put-end c = search needs
 
 put-requires : tie.Need-put-requires
-put-requires c κs = search needs
+put-requires c κs =
+    let f = c .before .before .before .fill-digits in
+    let s = c .before .before .before .before .before .before in
+    let whole = part-is _ (f .result) _ (f .ensures .1) (f .ensures .2) in
+    omega (arith, ap length whole, s .pre)
 
 same-length : tie.Need-same-length
 same-length c = search needs
