@@ -2,4 +2,5 @@
 pub mod Rows
 pub mod Judging
 pub mod Verdicts
+pub mod Leaving
 pub mod Demand

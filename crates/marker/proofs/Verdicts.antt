@@ -73,25 +73,25 @@ by-run net plan = go (walk net (net .start))
     go (stop m) = refl
 
 module _ (r : Network) (p : Bytes) (lines : ℕ) (m : Markable r p lines) where
-  abbrev net : ModelNetwork
+  abbrev pub net : ModelNetwork
   net = recordedNetwork r
 
-  c : Recorded (m .text) r
-  c = reading-recorded (m .text) record { verdict = Accepted; network = r } (m .reading) refl
+  pub recorded : Recorded (m .text) r
+  recorded = reading-recorded (m .text) record { verdict = Accepted; network = r } (m .reading) refl
 
-  good : GoodText p lines
+  pub good : GoodText p lines
   good = form-good p (Good lines) lines (sym (m .form)) refl
 
   -- what the run starts from
-  abbrev before : Marking
+  abbrev pub before : Marking
   before = marking (r .bits) (r .known) (replicate 4 0) (replicate 4 0)
 
   starts : HoldsStart net (r .nodes) (r .summary) before
   starts = record {
-    stored = c .stored;
+    stored = recorded .stored;
     start = refl;
-    in-limits = c .filled .in-limits;
-    sized = record { words = c .filled .bits-size; marks = c .filled .known-size };
+    in-limits = recorded .filled .in-limits;
+    sized = record { words = recorded .filled .bits-size; marks = recorded .filled .known-size };
     slots = record { first-size = refl; places-size = refl };
     reached = reached-none (r .summary) (before .firsts) (λ i lt. zero-at 4 i);
   }
@@ -101,7 +101,7 @@ module _ (r : Network) (p : Bytes) (lines : ℕ) (m : Markable r p lines) where
   runnable = ((good .plan, good .reads), (net, starts))
 
   module _ (ran : Ran) (after : Marking) (runs : Runs (r .nodes) (r .summary) p before ran after) where
-    abbrev whole : Result Run
+    abbrev pub whole : Result Run
     whole = fromStart net (good .plan) (walk net (net .start))
 
     ran-as : RanAs (r .nodes) (r .summary) ran after whole
@@ -117,14 +117,14 @@ module _ (r : Network) (p : Bytes) (lines : ℕ) (m : Markable r p lines) where
         go (ok run) f = absurd (let z : Done ≡ Refused number place = sym (f .0) ∙ e in let y : _≡_ {A = ℕ} 0 1 = cc in omega arith)
         go (refused a b) f = let z : Refused a b ≡ Refused number place = sym f ∙ e in let x : a ≡ number = cc in let y : b ≡ place = cc in rw (x, y)
 
-    record Finished : Type 0 where
-      run : Run
-      is : whole ≡ ok run
-      last : configAt (r .nodes) (r .summary) after ≡ run .last
-      reached : Reached (r .summary) (after .firsts) (run .paths)
-      sized : ConfigSized (after .bits) (after .known)
+    pub record Finished : Type 0 where
+      pub run : Run
+      pub is : whole ≡ ok run
+      pub last : configAt (r .nodes) (r .summary) after ≡ run .last
+      pub reached : Reached (r .summary) (after .firsts) (run .paths)
+      pub sized : ConfigSized (after .bits) (after .known)
 
-    finished : ran ≡ Done → Finished
+    pub finished : ran ≡ Done → Finished
     finished e = go whole refl ran-as
       where
         go : (a : Result Run) → whole ≡ a → RanAs (r .nodes) (r .summary) ran after a → Finished
@@ -134,11 +134,11 @@ module _ (r : Network) (p : Bytes) (lines : ℕ) (m : Markable r p lines) where
     -- what the judgement asks
     pub judgeable : ran ≡ Done → Judgeable (r .nodes) (r .summary) (after .bits) (after .known)
     judgeable e = record {
-      in-limits = c .filled .in-limits;
+      in-limits = recorded .filled .in-limits;
       sized = finished e .sized;
-      least = λ i lt. target-segment (m .text) r c i lt .least;
-      most = λ i lt. target-segment (m .text) r c i lt .most;
-      short = λ i lt. target-segment (m .text) r c i lt .short;
+      least = λ i lt. target-segment (m .text) r recorded i lt .least;
+      most = λ i lt. target-segment (m .text) r recorded i lt .most;
+      short = λ i lt. target-segment (m .text) r recorded i lt .short;
     }
 
     abbrev ending : List ScanPath → Config → ℕ → ℕ → Result Pass

@@ -1,4 +1,5 @@
 -- What the marker's calls answer, in the model's terms.
 pub mod Marks
 pub mod Targets
+pub mod Left
 pub mod Demand
