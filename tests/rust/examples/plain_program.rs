@@ -1,4 +1,4 @@
-//! The Rust version as a program: `plain_program read|plan|mark|clock|recover FILE..` prints what that
+//! The Rust version as a program: `plain_program read|plan|mark|clock|recover|carry FILE..` prints what that
 //! program prints. The example `program_speed` runs it beside the built programs.
 
 use std::io::Write;
@@ -20,8 +20,9 @@ fn main() {
         (Some("plan"), [network]) => programs::plan(network),
         (Some("mark"), [network, plan]) => programs::mark(network, plan),
         (Some("clock"), [plan]) => programs::clock(plan),
+        (Some("carry"), [network, plan]) => programs::carry(network, plan),
         _ => {
-            eprintln!("usage: plain_program read|plan|mark|clock|recover FILE..");
+            eprintln!("usage: plain_program read|plan|mark|clock|recover|carry FILE..");
             std::process::exit(2);
         }
     };

@@ -1,15 +1,17 @@
 //! Writes texts and what the Rust version prints for them into a folder: `program_cases FOLDER SEED
-//! COUNT`, COUNT generated pairs from SEED on, half as many with RESET fields, one for each fault
-//! and change, and those at the limits. A pair is NAME.net and NAME.plan; `read` must print
-//! NAME.read and `plan` NAME.planned for the first, `clock` NAME.clk for the second and `mark`
-//! NAME.mark for both. The script tests/programs runs the built programs on them.
+//! COUNT`, COUNT generated pairs from SEED on, half as many with RESET fields, about half as many in turn,
+//! one for each fault and change, and those at the limits. A pair is NAME.net and NAME.plan; `read` must
+//! print NAME.read and `plan` NAME.planned for the first, `clock` NAME.clk for the second, `mark` NAME.mark
+//! and `carry` NAME.carry for both. The script tests/programs runs the built programs on them.
 
 use std::collections::BTreeSet;
 use std::path::Path;
 
-use penthluk_reference::generate::cases::{case, damaged_with, draw_network};
+use penthluk_reference::generate::carry_cases::carry_chain;
+use penthluk_reference::generate::cases::{case, damaged_with, draw_network, Case};
 use penthluk_reference::generate::draft::{Draft, Entry};
 use penthluk_reference::generate::edges::{held_chain, long_network, plan_line};
+use penthluk_reference::generate::exercises::Exercise;
 use penthluk_reference::generate::faults::{Fault, FAULTS, RESET_FAULTS};
 use penthluk_reference::generate::large::{chain, full, steered};
 use penthluk_reference::generate::maze::gray;
@@ -38,6 +40,7 @@ struct Pair {
     planned: Vec<u8>,
     mark: Vec<u8>,
     clocks: Vec<u8>,
+    carry: Vec<u8>,
 }
 
 impl Pair {
@@ -48,6 +51,7 @@ impl Pair {
             planned: programs::plan(&network),
             mark: programs::mark(&network, &plan),
             clocks: programs::clock(&plan),
+            carry: programs::carry(&network, &plan),
             network,
             plan,
         }
@@ -71,6 +75,7 @@ impl Pair {
         write("planned", &self.planned);
         write("mark", &self.mark);
         write("clk", &self.clocks);
+        write("carry", &self.carry);
     }
 
     /// The count of `got` lines, if the plan passes.
@@ -87,14 +92,17 @@ fn main() {
     };
     let (seed, count): (u64, u64) = (seed.parse().expect("SEED"), count.parse().expect("COUNT"));
     let random = &mut Random::new(seed);
-    let mut pairs: Vec<Pair> = (seed..seed + count).map(generated).collect();
+    let old = |seed| generated("seed", seed, case(seed));
+    let reset = |seed| generated("seed-reset", seed, reset_case(seed));
+    let mut pairs: Vec<Pair> = (seed..seed + count).map(old).collect();
     pairs.extend(FAULTS.map(|fault| faulty(random, fault)));
     pairs.extend(faulty_plans(random));
     pairs.extend(CHANGES.map(|change| changed(random, change)));
     pairs.extend((0..=MAX_TARGETS).map(|reads| all_on_path(random, reads)));
     pairs.extend(network_limits(random));
     pairs.extend(plan_limits(random));
-    pairs.extend((seed..seed + count / 2).map(generated_reset));
+    pairs.extend((seed..seed + count / 2).map(reset));
+    pairs.extend((seed..seed + count / 5).flat_map(generated_chain));
     let random = &mut reset_random(seed);
     pairs.extend(RESET_FAULTS.map(|fault| faulty_reset(random, fault)));
     pairs.extend(reset_limits(random));
@@ -102,14 +110,16 @@ fn main() {
     pairs.iter().for_each(|pair| pair.write(Path::new(folder)));
 }
 
-fn generated(seed: u64) -> Pair {
-    let case = case(seed);
-    Pair::new(format!("seed-{seed}"), case.network, case.plan)
+fn generated(name: &str, seed: u64, case: Case) -> Pair {
+    Pair::new(format!("{name}-{seed}"), case.network, case.plan)
 }
 
-fn generated_reset(seed: u64) -> Pair {
-    let case = reset_case(seed);
-    Pair::new(format!("seed-reset-{seed}"), case.network, case.plan)
+/// Exercises that go on from one another.
+fn generated_chain(seed: u64) -> Vec<Pair> {
+    let pair = |(index, exercise): (usize, Exercise)| {
+        Pair::new(format!("seed-carry-{seed}-{index}"), exercise.network, exercise.plan)
+    };
+    carry_chain(seed).into_iter().enumerate().map(pair).collect()
 }
 
 /// A network with one fault.
@@ -261,6 +271,7 @@ fn assert_covered(pairs: &[Pair]) {
     );
     let mark_numbers = network_numbers().chain(14..=17).collect();
     assert_eq!(numbers(pairs.iter().map(|pair| &pair.mark)), mark_numbers);
+    assert_eq!(numbers(pairs.iter().map(|pair| &pair.carry)), mark_numbers);
     assert_eq!(numbers(pairs.iter().map(|pair| &pair.clocks)), BTreeSet::from([0, 14]));
     let gots: BTreeSet<usize> = pairs.iter().filter_map(Pair::gots).collect();
     assert_eq!(gots, (0..=MAX_TARGETS).collect());
@@ -290,4 +301,7 @@ fn assert_covered(pairs: &[Pair]) {
     assert!(has(&|pair| pair.plan.len() == MAX_PLAN_BYTES + 1 && refused(pair)));
     assert!(has(&|pair| line_count(&pair.planned) == 16 && pair.planned.len() > 55_000));
     assert!(has(&|pair| pair.planned.is_empty()));
+    let unknown = |pair: &Pair| pair.carry.contains(&b'X');
+    assert!(has(&|pair| line_count(&pair.carry) == MAX_NODES && !unknown(pair)));
+    assert!(has(&unknown) && has(&|pair| pair.carry.is_empty()));
 }

@@ -7,7 +7,7 @@ mod antt_text;
 use std::collections::BTreeMap;
 use std::path::Path;
 
-use antt_text::quoted;
+use antt_text::{lent, quoted, result};
 use penthluk_reference::generate::clock_forms::clock_forms;
 use penthluk_reference::generate::clock_lines::{idle_line, LONGEST_LINE};
 use penthluk_reference::generate::clock_texts::{clock_random, clock_text};
@@ -101,11 +101,6 @@ fn draw_rows(seed: u64, counts: &mut BTreeMap<&str, usize>) -> Vec<String> {
 fn program_row(text: &[u8]) -> String {
     let printed = quoted(&programs::recover(text));
     format!("row (program {}) (prints {printed})", quoted(text))
-}
-
-/// A lent buffer of this length.
-fn lent(length: usize) -> Vec<u8> {
-    (b'a'..=b'z').cycle().take(length).collect()
 }
 
 /// The call for a whole text, with a buffer of about the length that is needed.
@@ -215,13 +210,6 @@ fn limit_rows() -> Vec<String> {
 fn at(progress: &Progress) -> String {
     let Progress { lines, state, entries, bytes } = progress;
     format!("(at {lines} {state} {entries} {bytes})")
-}
-
-fn result<T>(result: Result<T, Refusal>, shown: impl Fn(T) -> String) -> String {
-    match result {
-        Ok(value) => format!("(ok {})", shown(value)),
-        Err(Refusal { number, place }) => format!("(refused {number} {place})"),
-    }
 }
 
 const HEAD: &str = include_str!("recover_rows_head.txt");

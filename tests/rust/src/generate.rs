@@ -1,6 +1,10 @@
 //! Networks, plans, lists and texts of clocks made from a seed. The same seed gives the same texts.
 
 pub mod base;
+pub mod card;
+pub mod carried;
+pub mod carry_cases;
+pub mod carry_forms;
 pub mod cases;
 pub mod clock_faults;
 pub mod clock_forms;
@@ -11,6 +15,7 @@ pub mod clock_walk;
 pub mod damage;
 pub mod draft;
 pub mod edges;
+pub mod exercises;
 pub mod faults;
 pub mod followed;
 pub mod large;

@@ -29,5 +29,9 @@ pub const MAX_STEERING_BITS: usize = 6;
 /// set of targets reached.
 pub const SEARCH_ENTRIES: usize = 11_664;
 
+/// Room for the `hold` lines of any network: 128 lines of a word, two tabs, at most three digits and a line
+/// end, and 4,000 bits.
+pub const MAX_HOLD_BYTES: usize = 10 * MAX_NODES + MAX_NETWORK_BITS;
+
 /// "a line over 32,768 bytes", of a record of clocks; its line end counts
 pub const MAX_CLOCK_LINE_BYTES: usize = 32_768;

@@ -27,13 +27,29 @@ pub struct Pass {
 /// "Marker: the network's refusals, then all 14, text length first, then 15 and 16 by operation,
 /// then 17."
 pub fn mark(network_text: &[u8], plan_text: &[u8]) -> Result<Pass, Refusal> {
-    let network = read_network(network_text)?;
-    let operations = parse_plan(plan_text)?;
-    mark_plan(&network, &operations)
+    mark_texts(network_text, plan_text).map(|marked| marked.pass)
 }
 
-/// The mark of a parsed plan.
-pub fn mark_plan(network: &Network, operations: &[Vec<bool>]) -> Result<Pass, Refusal> {
+/// A pass with the network and the configuration that the plan leaves.
+pub struct Marked {
+    pub network: Network,
+    pub pass: Pass,
+    pub last: Configuration,
+}
+
+/// The mark of two texts.
+pub fn mark_texts(network_text: &[u8], plan_text: &[u8]) -> Result<Marked, Refusal> {
+    let network = read_network(network_text)?;
+    let operations = parse_plan(plan_text)?;
+    let (pass, last) = mark_plan(&network, &operations)?;
+    Ok(Marked { network, pass, last })
+}
+
+/// The mark of a parsed plan, and the last configuration.
+pub fn mark_plan(
+    network: &Network,
+    operations: &[Vec<bool>],
+) -> Result<(Pass, Configuration), Refusal> {
     let mut configuration = network.start.clone();
     let mut accesses = vec![None; network.targets.len()];
     let mut clocks = 0;
@@ -51,7 +67,7 @@ pub fn mark_plan(network: &Network, operations: &[Vec<bool>]) -> Result<Pass, Re
         clocks += operation_clocks(bits).count();
     }
     let gots = judge_targets(network, &configuration, &accesses)?;
-    Ok(Pass { operations: operations.len(), clocks, gots })
+    Ok((Pass { operations: operations.len(), clocks, gots }, configuration))
 }
 
 /// The first operation with a target on the path, and the place of its bit 0 there.

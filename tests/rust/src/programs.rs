@@ -2,6 +2,7 @@
 
 use std::io::{self, Read};
 
+use crate::carry;
 use crate::clocks::write_clocks;
 use crate::limits::{MAX_PLAN_BYTES, SEARCH_ENTRIES};
 use crate::marker::{self, Pass};
@@ -30,7 +31,12 @@ pub fn plan(network_text: &[u8]) -> Vec<u8> {
 /// "The mark program prints `pass`, operations, clocks; then for each read target in order `got`,
 /// target, first operation with it on the path, place of its bit 0."
 pub fn mark(network_text: &[u8], plan_text: &[u8]) -> Vec<u8> {
-    printed(marker::mark(network_text, plan_text).map(|pass| pass_lines(&pass)))
+    marked(marker::mark(network_text, plan_text))
+}
+
+/// The lines of a mark.
+pub fn marked(result: Result<Pass, Refusal>) -> Vec<u8> {
+    printed(result.map(|pass| pass_lines(&pass)))
 }
 
 /// "the clock program prints `clk TMS TDI` for each operation"
@@ -55,6 +61,12 @@ pub fn recover_from(input: &mut impl Read) -> io::Result<Vec<u8>> {
             return Ok(printed(recovery.end()));
         }
     }
+}
+
+/// "After a pass, a program prints the last configuration as one `hold` line for each segment in number
+/// order."
+pub fn carry(network_text: &[u8], plan_text: &[u8]) -> Vec<u8> {
+    printed(carry::carried(network_text, plan_text))
 }
 
 /// "A refusal prints `fail`, number, place."

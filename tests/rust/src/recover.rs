@@ -12,7 +12,8 @@ use std::io::BufRead;
 
 use crate::controller::State;
 use crate::limits::MAX_CLOCK_LINE_BYTES;
-use crate::refusal::{Refusal, BUFFER, CLOCK_LINE};
+use crate::refusal::{Refusal, CLOCK_LINE};
+use crate::text::put;
 use follower::Follower;
 
 /// The TMS and TDI fields of a line without its line end. `None` for "a wrong line form or an empty
@@ -45,14 +46,9 @@ pub fn recover(text: &[u8]) -> Result<Vec<u8>, Refusal> {
     recovery.end()
 }
 
-/// Writes the plan text to the front of `plan` and gives its length: 19, then 13. "Output buffers
-/// change only on success, in the bytes needed."
+/// Writes the plan text to the front of `plan` and gives its length: 19, then 13.
 pub fn recover_text(text: &[u8], plan: &mut [u8]) -> Result<usize, Refusal> {
-    let recovered = recover(text)?;
-    let needed = recovered.len();
-    let room = plan.get_mut(..needed).ok_or(Refusal::new(BUFFER, needed))?;
-    room.copy_from_slice(&recovered);
-    Ok(needed)
+    put(&recover(text)?, plan)
 }
 
 /// A text that comes in pieces, cut anywhere.

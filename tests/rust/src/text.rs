@@ -1,4 +1,7 @@
-//! Lines and fields, shared by the network text and the plan text.
+//! Lines, fields and bits, shared by all texts.
+
+use crate::network::Bit;
+use crate::refusal::{Refusal, BUFFER};
 
 /// A line of a text.
 #[derive(Clone, Copy, Debug)]
@@ -52,4 +55,19 @@ pub fn bit_byte(bit: bool) -> u8 {
     } else {
         b'0'
     }
+}
+
+/// Start bits as they are written: "BITS starts with the highest bit", and so does RESET; "each `0`, `1`
+/// or `X` (unknown)".
+pub fn written(bits: &[Bit]) -> String {
+    bits.iter().rev().map(|bit| bit.map_or('X', |bit| char::from(bit_byte(bit)))).collect()
+}
+
+/// Writes a text to the front of a lent buffer and gives its length, or 13. "Output buffers change only
+/// on success, in the bytes needed."
+pub fn put(text: &[u8], buffer: &mut [u8]) -> Result<usize, Refusal> {
+    let needed = text.len();
+    let room = buffer.get_mut(..needed).ok_or(Refusal::new(BUFFER, needed))?;
+    room.copy_from_slice(text);
+    Ok(needed)
 }

@@ -2,7 +2,7 @@
 
 mod common;
 
-use common::{accepted, refused, text};
+use common::{accepted, lengths, overwritten, pattern, refused, text};
 use penthluk_reference::clocks::write_clocks;
 use penthluk_reference::generate::cases::{case, draw_network, draw_plan};
 use penthluk_reference::generate::random::Random;
@@ -13,20 +13,8 @@ use penthluk_reference::plan_text::write_plan;
 use penthluk_reference::planner::make_plan;
 use penthluk_reference::refusal::{Refusal, NO_PLAN};
 
-/// Bytes that are neither `0` nor `1` nor part of a plan.
-fn pattern(length: usize) -> Vec<u8> {
-    (0..length).map(|index| 128 + (index % 101) as u8).collect()
-}
-
 fn search_pattern(entries: usize) -> Vec<u16> {
     (0..entries).map(|index| 1 + (index % 60_013) as u16).collect()
-}
-
-/// A buffer that keeps its pattern behind the bytes written.
-fn overwritten(length: usize, written: &[u8]) -> Vec<u8> {
-    let mut buffer = pattern(length);
-    buffer[..written.len()].copy_from_slice(written);
-    buffer
 }
 
 /// The search space past check 12.
@@ -34,13 +22,6 @@ fn cleared(entries: usize) -> Vec<u16> {
     let mut search = search_pattern(entries);
     search[..SEARCH_ENTRIES].fill(0);
     search
-}
-
-/// The lengths around what is needed.
-fn lengths(needed: usize) -> Vec<usize> {
-    let mut lengths = vec![0, needed.saturating_sub(1), needed, needed + 1, needed + 1000];
-    lengths.dedup();
-    lengths
 }
 
 /// Calls the clock writer with all pairs of lengths. "Output buffers change only on success, in

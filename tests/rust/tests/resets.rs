@@ -4,12 +4,13 @@
 mod common;
 
 use common::{refused, text};
-use penthluk_reference::generate::draft::{written, Draft, Entry};
+use penthluk_reference::generate::draft::{Draft, Entry};
 use penthluk_reference::generate::random::Random;
 use penthluk_reference::generate::reset_cases::draw_reset_network;
 use penthluk_reference::network::Node;
 use penthluk_reference::programs::{mark, plan, read};
 use penthluk_reference::reader::read_network;
+use penthluk_reference::text::written;
 
 /// The start bits of each segment as they are written.
 fn starts(lines: &[&str]) -> Vec<String> {

@@ -1,6 +1,8 @@
-//! Bytes as antt writes them.
+//! Bytes and results as antt writes them.
 
 #![allow(dead_code)]
+
+use penthluk_reference::refusal::Refusal;
 
 /// The bytes as a quoted text, if they are of those that the texts of this project are made of.
 pub fn literal(bytes: &[u8]) -> Option<String> {
@@ -22,4 +24,17 @@ fn quoted_byte(byte: u8) -> String {
         b' ' | b'0'..=b'9' | b'a'..=b'z' | b'A'..=b'Z' => char::from(byte).to_string(),
         _ => format!("\\u{{{byte:x}}}"),
     }
+}
+
+/// A result, or number and place of a refusal.
+pub fn result<T>(result: Result<T, Refusal>, shown: impl Fn(T) -> String) -> String {
+    match result {
+        Ok(value) => format!("(ok {})", shown(value)),
+        Err(Refusal { number, place }) => format!("(refused {number} {place})"),
+    }
+}
+
+/// A lent buffer of this length.
+pub fn lent(length: usize) -> Vec<u8> {
+    (b'a'..=b'z').cycle().take(length).collect()
 }

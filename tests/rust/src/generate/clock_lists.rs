@@ -1,6 +1,6 @@
 //! Lists of clocks for the test frame that go everywhere, not only where a plan's clocks go.
 
-use super::draft::{written, Draft, Entry};
+use super::draft::{Draft, Entry};
 use super::random::Random;
 use super::reset_cases::reset_random;
 use super::tiny::tiny;
@@ -10,6 +10,7 @@ use crate::frame::{any_shift, Frame};
 use crate::network::{Configuration, Network};
 use crate::path::walk;
 use crate::reader::read_network;
+use crate::text::written;
 
 /// What the frame is given.
 pub struct ClockList {
@@ -110,7 +111,7 @@ fn draw_network(random: &mut Random) -> (Vec<u8>, Network) {
 
 /// The text of a network without targets that says its start with RESET fields and `hold` lines.
 fn reset_text(seed: u64, network: &Network) -> Vec<u8> {
-    let mut draft = Draft { nodes: network.nodes.clone(), out: network.out, entries: Vec::new() };
+    let mut draft = Draft::of(network);
     for segment in draft.segments() {
         let bits = written(&network.start[segment - 1]);
         draft.entries.push(Entry::Hold { segment, bits });

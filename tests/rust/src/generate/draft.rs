@@ -2,8 +2,9 @@
 
 use super::random::Random;
 use crate::limits::MAX_TARGETS;
-use crate::network::{segment_len, Bit, Node};
+use crate::network::{segment_len, Network, Node};
 use crate::steering::is_steering_segment;
+use crate::text::written;
 
 /// A line after `out`. Bits stand as they are written, highest bit first.
 #[derive(Clone, Debug, PartialEq, Eq)]
@@ -22,6 +23,11 @@ pub struct Draft {
 }
 
 impl Draft {
+    /// The nodes and the `out` line of a network, without further lines.
+    pub fn of(network: &Network) -> Draft {
+        Draft { nodes: network.nodes.clone(), out: network.out, entries: Vec::new() }
+    }
+
     /// Adds a segment and gives its number.
     pub fn segment(&mut self, from: usize, len: usize, shadow: bool) -> usize {
         self.nodes.push(Node::Segment { from, len, shadow, reset: None });
@@ -121,11 +127,6 @@ pub fn node_line(node: &Node) -> String {
             format!("mux\t{seg}\t{bit}{inputs}")
         }
     }
-}
-
-/// "BITS starts with the highest bit", and so does RESET.
-pub fn written(bits: &[Bit]) -> String {
-    bits.iter().rev().map(|bit| bit.map_or('X', |bit| if bit { '1' } else { '0' })).collect()
 }
 
 pub fn entry_line(entry: &Entry) -> String {

@@ -71,7 +71,7 @@ pub fn near(
 }
 
 /// The segments on the path of operation `index`, counted from 0, and the configuration there.
-fn before(
+pub(super) fn before(
     network: &Network,
     plan: &[Vec<bool>],
     index: usize,

@@ -1,8 +1,9 @@
 //! RESET fields of a network in the making.
 
-use super::draft::{written, Draft, Entry};
+use super::draft::{Draft, Entry};
 use super::random::Random;
 use crate::network::{Bit, Configuration, Node};
+use crate::text::written;
 
 impl Draft {
     /// The RESET of a segment.

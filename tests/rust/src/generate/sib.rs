@@ -63,7 +63,7 @@ fn branch(
 }
 
 /// One SIB: its bit stands before or behind its multiplexer on the way from scan-in.
-fn sib(
+pub(super) fn sib(
     random: &mut Random,
     draft: &mut Draft,
     from: usize,

@@ -1,10 +1,11 @@
 //! Unknown steering bits, where the start is valid without them.
 
-use super::draft::{written, Draft, Entry};
+use super::draft::{Draft, Entry};
 use super::random::Random;
 use crate::path::is_valid;
 use crate::reader::read_network;
 use crate::steering::{is_steering_segment, steering_bits};
+use crate::text::written;
 
 /// Makes most of the steering bits unknown that the start's walk does not need. A network that is
 /// not accepted stays as it is.

@@ -37,3 +37,22 @@ pub fn accepted(random: &mut Random, draw: impl Fn(&mut Random) -> Vec<u8>) -> (
         }
     }
 }
+
+/// Bytes that are neither `0` nor `1` nor part of a printed line.
+pub fn pattern(length: usize) -> Vec<u8> {
+    (0..length).map(|index| 128 + (index % 101) as u8).collect()
+}
+
+/// A buffer that keeps its pattern behind the bytes written.
+pub fn overwritten(length: usize, written: &[u8]) -> Vec<u8> {
+    let mut buffer = pattern(length);
+    buffer[..written.len()].copy_from_slice(written);
+    buffer
+}
+
+/// The lengths around what is needed.
+pub fn lengths(needed: usize) -> Vec<usize> {
+    let mut lengths = vec![0, needed.saturating_sub(1), needed, needed + 1, needed + 1000];
+    lengths.dedup();
+    lengths
+}
