@@ -7,7 +7,8 @@ use std::hint::black_box;
 use std::time::{Duration, Instant};
 
 use penthluk_compare::expected::{count_numbers, mark_numbers};
-use penthluk_compare::{clocks, mark, plan, read, read_line};
+use penthluk_compare::{carry, clocks, mark, plan, read, read_line};
+use penthluk_reference::carry::carry as plain_carry;
 use penthluk_reference::clocks::write_clocks;
 use penthluk_reference::generate::draft::Draft;
 use penthluk_reference::generate::edges::plan_line;
@@ -17,7 +18,7 @@ use penthluk_reference::generate::random::Random;
 use penthluk_reference::generate::rounds::many_rounds;
 use penthluk_reference::generate::sib::{sib_tree, Size};
 use penthluk_reference::generate::tiny::tiny;
-use penthluk_reference::limits::{MAX_PLAN_BYTES, SEARCH_ENTRIES};
+use penthluk_reference::limits::{MAX_HOLD_BYTES, MAX_PLAN_BYTES, SEARCH_ENTRIES};
 use penthluk_reference::marker;
 use penthluk_reference::planner::make_plan;
 use penthluk_reference::programs;
@@ -174,6 +175,27 @@ fn marks() {
     }
 }
 
+/// The buffer is lent again and again and not cleared in between.
+fn carryings() {
+    let (small, two) =
+        (&b"seg\t0\t4\ts\nmux\t3\t0\t0\t1\nseg\t2\t1\ts\nout\t3\n"[..], b"csu\t1\ncsu\t00101\n");
+    for (name, network, plan) in [
+        ("carry, 16 operations of 4,000 bits", longest_path(), longest_plan()),
+        ("carry, one operation of 5 bits on 128 nodes", short_path(), plan_line(5)),
+        ("carry, two operations on 3 nodes", small.to_vec(), two.to_vec()),
+    ] {
+        let [mut holds, mut plain_holds] = [(); 2].map(|_| vec![0; MAX_HOLD_BYTES]);
+        let numbers = carry(&network, &plan, &mut holds);
+        let expected = plain_carry(&network, &plan, &mut plain_holds);
+        assert_eq!(numbers, count_numbers(&expected));
+        assert!(numbers[0] == 0 && holds == plain_holds, "{name}");
+        let proved = || _ = black_box(carry(black_box(&network), black_box(&plan), &mut holds));
+        let plain =
+            || _ = black_box(plain_carry(black_box(&network), black_box(&plan), &mut plain_holds));
+        compare(name, network.len() + plan.len() + numbers[1], SHORT, proved, plain);
+    }
+}
+
 /// The buffers are lent again and again and not cleared in between.
 fn clock_writings() {
     for (name, plan) in [
@@ -252,6 +274,7 @@ fn sets_of_plans() {
 fn main() {
     readings();
     marks();
+    carryings();
     clock_writings();
     plans();
     sets_of_plans();

@@ -8,7 +8,8 @@ use std::collections::HashSet;
 
 use penthluk_compare::expected::{count_numbers, mark_numbers};
 use penthluk_compare::lent::Lent;
-use penthluk_compare::{clocks, mark, plan, read, read_line};
+use penthluk_compare::{carry, clocks, mark, plan, read, read_line};
+use penthluk_reference::carry::carry as plain_carry;
 use penthluk_reference::clocks::write_clocks;
 use penthluk_reference::generate::cases::{case, Case};
 use penthluk_reference::generate::random::Random;
@@ -75,7 +76,7 @@ fn change_number(random: &mut Random, text: &mut Vec<u8>) {
 }
 
 /// The marker's number for the pair, and whether the answers differ from those of the pairs before.
-/// The clock writer is called too, and the planner for one pair in eight.
+/// The clock writer and `carry` are called too, and the planner for one pair in eight.
 fn compare(pair: &Case, step: u64, seen: &mut HashSet<[usize; 8]>) -> (usize, bool) {
     let Case { network, plan, .. } = pair;
     let reading = read(network);
@@ -83,6 +84,7 @@ fn compare(pair: &Case, step: u64, seen: &mut HashSet<[usize; 8]>) -> (usize, bo
     let answer = mark(network, plan);
     assert_eq!(answer, mark_numbers(&marker::mark(network, plan)), "{pair:?}");
     compare_clocks(pair);
+    compare_lines(pair);
     if step % 8 == 0 {
         compare_plans(pair);
     }
@@ -97,6 +99,16 @@ fn compare_clocks(pair: &Case) {
     let expected = write_clocks(&pair.plan, plain_tms.buffer(), plain_tdi.buffer());
     assert_eq!(answer, count_numbers(&expected), "{pair:?}");
     assert!(tms == plain_tms && tdi == plain_tdi, "{pair:?}");
+}
+
+/// The lines of what a passed plan leaves, with the room for a plan.
+fn compare_lines(pair: &Case) {
+    let mut holds = Lent::bytes(pair.plan_room);
+    let mut plain_holds = holds.clone();
+    let answer = carry(&pair.network, &pair.plan, holds.buffer());
+    let expected = plain_carry(&pair.network, &pair.plan, plain_holds.buffer());
+    assert_eq!(answer, count_numbers(&expected), "{pair:?}");
+    assert!(holds == plain_holds, "{pair:?}");
 }
 
 fn compare_plans(pair: &Case) {

@@ -25,7 +25,7 @@ pub fn passed(numbers: &[usize; 16]) -> Option<Pass> {
     Some(Pass { operations, clocks, gots: numbers[4..].chunks(3).take(rows).map(row).collect() })
 }
 
-/// The numbers of an answer that is a count: of clocks written, or of a plan's bytes.
+/// The numbers of an answer that is a count: of clocks written, or of the bytes of a plan or of `hold` lines.
 pub fn count_numbers(result: &Result<usize, Refusal>) -> [usize; 2] {
     match result {
         Ok(count) => [0, *count],

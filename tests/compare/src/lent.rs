@@ -21,7 +21,7 @@ impl<T> Lent<T> {
 }
 
 impl Lent<u8> {
-    /// Bytes that stand in no plan, neither `0` nor `1` among them.
+    /// Bytes that stand in no text, neither `0` nor `1` among them.
     pub fn bytes(length: usize) -> Lent<u8> {
         Lent::new(length, |index| 128 + (index % 101) as u8)
     }

@@ -38,6 +38,17 @@ extern "C" {
         answer: *mut usize,
     );
 
+    /// `pub extern "C" fn penthluk_carry(network: &[u8], plan: &[u8], holds: &mut [u8], answer: &mut [usize; 2])`
+    fn penthluk_carry(
+        network: *const u8,
+        network_length: usize,
+        plan: *const u8,
+        plan_length: usize,
+        holds: *mut u8,
+        holds_length: usize,
+        answer: *mut usize,
+    );
+
     /// `pub extern "C" fn penthluk_recover(text: &[u8], plan: &mut [u8], answer: &mut [usize; 2])`
     fn penthluk_recover(
         text: *const u8,
@@ -131,6 +142,27 @@ pub fn plan(network: &[u8], search: &mut [u16], plan: &mut [u8]) -> [usize; 2] {
             search.len(),
             plan.as_mut_ptr(),
             plan.len(),
+            answer.as_mut_ptr(),
+        )
+    };
+    answer
+}
+
+/// Writes the `hold` lines of the last configuration to the front of `holds`. 0 and the count of their
+/// bytes, or number and place of a refusal.
+#[inline]
+pub fn carry(network: &[u8], plan: &[u8], holds: &mut [u8]) -> [usize; 2] {
+    let mut answer = [UNWRITTEN; 2];
+    // SAFETY: the call has no `requires`; it reads the two texts and writes within `holds` and the two
+    // numbers.
+    unsafe {
+        penthluk_carry(
+            network.as_ptr(),
+            network.len(),
+            plan.as_ptr(),
+            plan.len(),
+            holds.as_mut_ptr(),
+            holds.len(),
             answer.as_mut_ptr(),
         )
     };

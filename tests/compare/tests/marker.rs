@@ -1,10 +1,10 @@
 //! The proved marker answers as the plain Rust version does: verdict, counts and `got` rows.
 
+mod short_plans;
+
 use penthluk_compare::expected::{mark_numbers, refusal_numbers};
 use penthluk_reference::generate::cases::{case, damaged_with, draw_network, draw_plan};
-use penthluk_reference::generate::edges::{
-    draw_edge_network, draw_edge_plan, held_chain, plan_line,
-};
+use penthluk_reference::generate::edges::{draw_edge_network, draw_edge_plan, held_chain};
 use penthluk_reference::generate::faults::{all_faults, FAULTS};
 use penthluk_reference::generate::large::{full, large};
 use penthluk_reference::generate::near::{near, CHANGES};
@@ -20,6 +20,7 @@ use penthluk_reference::marker;
 use penthluk_reference::plan_text::write_plan;
 use penthluk_reference::reader::read_network;
 use penthluk_reference::refusal::Refusal;
+use short_plans::each_short_plan;
 
 /// Pairs from all generators of networks and plans.
 const CASES: u64 = 100_000;
@@ -242,45 +243,11 @@ fn large_texts_with_resets() {
     counts.at_least(&[3, 6, 18], 5);
 }
 
-/// The drawn networks of document 01, and two with RESET fields, with every plan of at most two
-/// operations of at most five bits.
+/// The drawn networks with every short plan.
 #[test]
 fn every_short_plan() {
-    let networks: [&[u8]; 7] = [
-        b"seg\t0\t4\ts\nmux\t3\t0\t0\t1\nseg\t2\t1\ts\nout\t3\nwrite\t1\t1010\n",
-        b"seg\t0\t2\ts\nseg\t0\t2\ts\nmux\t4\t0\t1\t2\nseg\t3\t1\ts\nout\t4\nread\t1\nread\t2\n",
-        b"seg\t0\t1\ts\nseg\t1\t4\ts\nmux\t1\t0\t0\t2\nout\t3\nread\t2\n",
-        b"seg\t0\t2\ts\nmux\t1\t0\t1\t1\t1\nout\t2\n",
-        b"out\t0\n",
-        // A, open at the start; B, with the other branch at the start by a `hold` over RESET.
-        b"seg\t0\t4\ts\t1X10\nmux\t3\t0\t0\t1\nseg\t2\t1\ts\t1\nout\t3\nwrite\t1\t1010\n",
-        b"seg\t0\t2\ts\nseg\t0\t2\ts\tXX\nmux\t4\t0\t1\t2\nseg\t3\t1\ts\tX\nout\t4\nread\t1\nread\t2\nhold\t4\t1\n",
-    ];
-    let lines: Vec<Vec<u8>> = (0..=5).flat_map(lines_of).collect();
-    assert_eq!(lines.len(), 63);
     let mut counts = Counts::default();
-    for network in networks {
-        counts.compare(network, b"");
-        for first in &lines {
-            counts.compare(network, first);
-            for second in &lines {
-                counts.compare(network, &[&first[..], second].concat());
-            }
-        }
-        for lines in [15, 16, 17] {
-            counts.compare(network, &plan_line(0).repeat(lines));
-        }
-    }
+    each_short_plan(|network, plan| _ = counts.compare(network, plan));
     counts.at_least(&[0, 14, 15, 16, 17], 5);
     assert!(counts.rows[2] > 0, "{counts:?}");
-}
-
-/// Every plan line of so many bits.
-fn lines_of(bits: usize) -> Vec<Vec<u8>> {
-    let line = |number: usize| {
-        let bits: String =
-            (0..bits).map(|bit| if number >> bit & 1 == 1 { '1' } else { '0' }).collect();
-        format!("csu\t{bits}\n").into_bytes()
-    };
-    (0..1 << bits).map(line).collect()
 }

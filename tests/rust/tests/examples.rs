@@ -1,14 +1,15 @@
 //! What is stored in `examples` is what the Rust version prints.
 
-use penthluk_reference::programs::{clock, mark, plan, recover};
+use penthluk_reference::programs::{carry, clock, mark, plan, recover};
 use std::collections::BTreeMap;
 use std::fs::{read, read_dir};
 use std::path::Path;
 
 /// The kinds of stored files: a network, the plan that is marked, its mark, its clocks, what the
 /// planner prints where that is not the plan; clocks as a probe stored them, and what is recovered from
-/// them where that is not the plan.
-const KINDS: [&str; 7] = ["net", "plan", "mark", "clk", "planned", "recorded", "recovered"];
+/// them where that is not the plan; what the plan leaves.
+const KINDS: [&str; 8] =
+    ["net", "plan", "mark", "clk", "planned", "recorded", "recovered", "carry"];
 
 /// The files of a folder by name.
 fn files(folder: &Path) -> BTreeMap<String, Vec<u8>> {
@@ -56,6 +57,9 @@ fn stored_outputs_are_printed() {
         if let Some(recorded) = stored("recorded") {
             let recovered = stored("recovered").unwrap_or(marked);
             printed.push(("plan of the record", recover(recorded), recovered));
+        }
+        if let Some(left) = stored("carry") {
+            printed.push(("carry", carry(network, marked), left));
         }
         for (kind, printed, stored) in printed {
             let [printed, stored] = [&printed, stored].map(|bytes| String::from_utf8_lossy(bytes));

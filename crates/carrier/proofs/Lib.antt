@@ -1,0 +1,3 @@
+-- Laws of the call by the mark, and the demands of it.
+pub mod Carrying
+pub mod Demand

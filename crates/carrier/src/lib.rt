@@ -1,0 +1,22 @@
+// Carrying a setting into the next exercise: the `hold` lines of the configuration that a passed plan left.
+use hold_lines::Held;
+use hold_lines::write_holds;
+use marker::mark_leaving;
+use marker::targets::Verdict;
+ghost use Rattle.carrier.specs.Call.{CarryReturned};
+
+// The lines at the front of a buffer: the mark's refusals, then 13 where the buffer has no room for them.
+pub fn carry(network: &[u8], plan: &[u8], holds: &mut [u8]) -> Held
+    ensures { λ r. ⌜ CarryReturned (now (network .entry)) (now (plan .entry)) (now (holds .entry)) r (now (holds .exit)) ⌝ }
+{
+    let marked = mark_leaving(network, plan);
+    let mark = marked.mark;
+    let verdict = mark.verdict;
+    let nodes = marked.nodes;
+    let bits = marked.bits;
+    let known = marked.known;
+    match verdict {
+        Verdict::Refused(number, place) => Held::Refused(number, place),
+        Verdict::Pass(_, _) => write_holds(&nodes, &bits, &known, marked.count, holds),
+    }
+}

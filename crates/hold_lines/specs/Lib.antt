@@ -1,0 +1,2 @@
+-- The lines of the configuration that the arrays hold.
+pub mod Lines
