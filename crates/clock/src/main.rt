@@ -1,10 +1,10 @@
 // clock [PLAN]: `clk` with TMS and TDI for each operation, or `fail` with number and place.
+use clock_answer::ROOM;
+use clock_answer::print_clocks;
 use model::limits::MAX_PLAN_BYTES;
 use program_io::finish::answer;
 use program_io::input::read_text;
 use program_io::start::begin;
-use program_text::clocks::ROOM;
-use program_text::clocks::print_clocks;
 
 fn main() {
     let name = b"clock";

@@ -7,10 +7,6 @@ use program_io::output::put_part;
 use program_io::start::begin;
 use program_io::status::ANSWERED;
 use program_io::status::NO_ANSWER;
-use program_text::clocks;
-use program_text::mark as marks;
-use program_text::plan as plans;
-use program_text::reading;
 
 fn put(bytes: &[u8]) -> bool {
     put_part(b"drawn", bytes)
@@ -28,8 +24,8 @@ fn read(title: &[u8], network: &[u8]) -> bool {
     if !put_title(title, b": read") {
         return false;
     }
-    let mut out = [0u8; reading::ROOM];
-    let n = reading::print_reading(network, &mut out);
+    let mut out = [0u8; read_answer::ROOM];
+    let n = read_answer::print_reading(network, &mut out);
     put(&out[..n])
 }
 
@@ -37,8 +33,8 @@ fn mark(title: &[u8], network: &[u8], plan: &[u8]) -> bool {
     if !put_title(title, b": mark") {
         return false;
     }
-    let mut out = [0u8; marks::ROOM];
-    let n = marks::print_mark(network, plan, &mut out);
+    let mut out = [0u8; mark_answer::ROOM];
+    let n = mark_answer::print_mark(network, plan, &mut out);
     put(&out[..n])
 }
 
@@ -46,8 +42,8 @@ fn plan(title: &[u8], network: &[u8]) -> bool {
     if !put_title(title, b": plan") {
         return false;
     }
-    let mut out = [0u8; plans::ROOM];
-    let n = plans::print_plan(network, &mut out);
+    let mut out = [0u8; plan_answer::ROOM];
+    let n = plan_answer::print_plan(network, &mut out);
     put(&out[..n])
 }
 
@@ -55,8 +51,8 @@ fn clock(title: &[u8], plan: &[u8]) -> bool {
     if !put_title(title, b": clock") {
         return false;
     }
-    let mut out = [0u8; clocks::ROOM];
-    let n = clocks::print_clocks(plan, &mut out);
+    let mut out = [0u8; clock_answer::ROOM];
+    let n = clock_answer::print_clocks(plan, &mut out);
     put(&out[..n])
 }
 

@@ -12,7 +12,7 @@ use Rattle.model.proofs.Lists.{not-ok, ok-is, refusal-number, refusal-place}
 use Rattle.plan_text.specs.Writing.{writeAt}
 use Rattle.plan_text.proofs.Writing.{over-is}
 use Rattle.program_lines.specs.Puts.{Puts}
-use Rattle.program_text.proofs.Shown.{at-front}
+use Rattle.program_text.proofs.Front.{at-front}
 
 pub call-written : (shown : Bytes) (out : List ℕ) (result : Result (List ℕ)) → shown ≡ printed (λ text. text) result → (out′ : List ℕ) → out′ ≡ written result out
     → (count : ℕ) → ok count ≡ countOf result → (count ≡ length shown) × (out′ ≡ writeAt 0 shown out)

@@ -6,12 +6,9 @@ use Prim.Native.Nat.{ℕ, _+_}
 use lib.ListN.{length, take, drop, getD}
 use Rattle.model.specs.Text.{Bytes, bytes}
 use Rattle.model.specs.Drawn.{ProgramRow, prints, starred}
-use Rattle.model.specs.Printed.{printed}
 use Rattle.model.proofs.Demands.{drawn}
-use Rattle.model.proofs.Requests.{cut-in-parts}
 use Rattle.plan_text.specs.Writing.{writeAt}
-use Rattle.program_text.specs.Demand.{WritesShown, StarredWritten, RecoveredWritten}
-use Rattle.program_text.proofs.RecoveryShown.{alike-end, took-parts}
+use Rattle.program_text.specs.Demand.{WritesShown, StarredWritten}
 
 front : (xs ys : List ℕ) → take (length xs) (xs ++ ys) ≡ xs
 front [] ys = refl
@@ -33,7 +30,3 @@ pub starred-written : StarredWritten
 starred-written k m old r new p =
     writes-shown _ old r new p
     ∙ on-each (λ (s : ProgramRow). prints (s .program) (bytes (s .network)) (bytes (s .plan))) (λ (s : ProgramRow). bytes (s .output)) starred drawn k m
-
-pub recovered-written : RecoveredWritten
-recovered-written orig cut answer rest plan few room took r new p =
-    writes-shown _ plan r new p ∙ ap (printed (λ text. text)) (alike-end _ _ (took-parts orig cut answer rest plan took)) ∙ cut-in-parts cut orig few room

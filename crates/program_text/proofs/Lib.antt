@@ -1,9 +1,4 @@
--- Laws of what the programs print, and the demands of the printing functions.
-pub mod Shown
-pub mod CallShown
-pub mod PlanShown
-pub mod CarryShown
-pub mod ClocksShown
-pub mod RecoveryShown
+-- Laws of what the programs print, and the demands of every printing function.
 pub mod Front
+pub mod CallShown
 pub mod Demand

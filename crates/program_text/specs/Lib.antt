@@ -1,4 +1,3 @@
--- What the contracts of this crate cite, and what follows of them.
+-- What the contracts of the printing functions cite, and what follows of them.
 pub mod Printing
-pub mod Recovery
 pub mod Demand

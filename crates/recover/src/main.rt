@@ -13,7 +13,7 @@ use program_io::stream::TOO_MANY_PARTS;
 use program_io::stream::close;
 use program_io::stream::open_operand;
 use program_io::stream::read_part;
-use program_text::recovery::print_recovery;
+use recover_answer::print_recovery;
 use recoverer::line::Stepped;
 use recoverer::line::at_first;
 use recoverer::part::recover_part;

@@ -1,0 +1,2 @@
+-- Laws of what the carry program prints.
+pub mod CarryShown

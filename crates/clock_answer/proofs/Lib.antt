@@ -1,0 +1,2 @@
+-- Laws of what the clock program prints.
+pub mod ClocksShown

@@ -1,0 +1,2 @@
+-- Laws of what the mark program prints.
+pub mod MarkShown

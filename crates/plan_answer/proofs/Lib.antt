@@ -1,0 +1,2 @@
+-- Laws of what the plan program prints.
+pub mod PlanShown

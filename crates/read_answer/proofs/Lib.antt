@@ -1,0 +1,2 @@
+-- Laws of what the read program prints.
+pub mod ReadingShown

@@ -1,0 +1,3 @@
+-- What the contracts of this crate cite, and what follows of them.
+pub mod Recovery
+pub mod Demand
