@@ -18,16 +18,10 @@ fn main() {
         2,
         2,
     );
-    if !call.runs {
-        return;
-    }
     let mut network = [0u8; MAX_NETWORK_BYTES + 1];
-    let first = read_text(name, call.reports, call.first, &mut network);
-    if !first.is_read {
-        return;
-    }
+    let first = read_text(name, call.runs, call.reports, call.first, &mut network);
     let mut plan = [0u8; MAX_PLAN_BYTES + 1];
-    let second = read_text(name, call.reports, call.second, &mut plan);
+    let second = read_text(name, first.is_read, call.reports, call.second, &mut plan);
     if !second.is_read {
         return;
     }

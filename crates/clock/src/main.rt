@@ -16,11 +16,8 @@ fn main() {
         0,
         1,
     );
-    if !call.runs {
-        return;
-    }
     let mut text = [0u8; MAX_PLAN_BYTES + 1];
-    let input = read_text(name, call.reports, call.first, &mut text);
+    let input = read_text(name, call.runs, call.reports, call.first, &mut text);
     if !input.is_read {
         return;
     }

@@ -57,11 +57,15 @@ fn read_operand(i: usize, text: &mut [u8]) -> Input
     input
 }
 
-// The same; where it can't be read to its end, everything is said and reported. A buffer of one byte more than a text may
-// have lets a longer one reach the call that refuses it.
-pub fn read_text(name: &[u8], reports: bool, i: usize, text: &mut [u8]) -> Input
+// The same, and nothing is read for a program that does not run, or not on after a text before this one. Where the text can't be
+// read to its end, everything is said and reported. A buffer of one byte more than a text may have lets a longer one reach the
+// call that refuses it.
+pub fn read_text(name: &[u8], runs: bool, reports: bool, i: usize, text: &mut [u8]) -> Input
     ensures { λ r. ⌜ Counts (r .count) (now (text .exit)) ⌝ }
 {
+    if !runs {
+        return unread(0);
+    }
     let input = read_operand(i, text);
     if !input.is_read {
         give_up(name, reports, i, input.error);
