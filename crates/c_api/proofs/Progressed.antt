@@ -7,10 +7,10 @@ use Prim.Native.Nat.{ℕ, _≤_, _<_}
 use native.Mathlib.Omega.{arith}
 use lib.Dec.{ltb}
 use borrow.Author.Tests.{lt-ltb, le-ltb, ltb-true}
-use Rattle.model.specs.RecoverCalls.{Progress, canGoOn, recoverLine, recoverEnd, stepLine}
 use Rattle.model.specs.Refusals as refusal
 use Rattle.model.specs.Result.{Result, refused}
 use Rattle.model.specs.Text.{Bytes}
+use Rattle.recover_model.specs.RecoverCalls.{Progress, canGoOn, recoverLine, recoverEnd, stepLine}
 use Rattle.recoverer.proofs.GoingOn.{cannot}
 use Rattle.c_api.specs.Progress.{progressNumbers, stateIn, Alike}
 

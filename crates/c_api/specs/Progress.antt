@@ -6,9 +6,9 @@ use mathlib.Core.List.{List, [], _∷_}
 use Prim.Native.Nat.{ℕ}
 use lib.ListN.{getD}
 use lib.Dec.{ltb}
-use Rattle.model.specs.RecoverCalls.{Progress, recoverLine, recoverEnd}
 use Rattle.model.specs.Result.{Result, ok, refused}
 use Rattle.model.specs.Text.{Bytes}
+use Rattle.recover_model.specs.RecoverCalls.{Progress, recoverLine, recoverEnd}
 
 -- lines, state, entries, bytes
 abbrev pub progressIn : List ℕ → Progress

@@ -2,7 +2,7 @@
 use carrier::carry;
 use hold_lines::Held;
 ghost use mathlib.Core.Path.{_≡_};
-ghost use Rattle.model.specs.Carry.{carryText};
+ghost use Rattle.carry_model.specs.Carry.{carryText};
 ghost use Rattle.c_api.specs.Numbers.{countNumbers};
 
 // Writes the `hold` lines of the configuration that a passed plan left to the front of holds. answer takes 0 and the count of

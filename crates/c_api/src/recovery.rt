@@ -7,7 +7,7 @@ use recoverer::line::recover_end;
 use recoverer::line::recover_line;
 use recoverer::whole::recover_text;
 ghost use mathlib.Core.Path.{_≡_};
-ghost use Rattle.model.specs.RecoverCalls.{recoverText, recoverLine, recoverEnd};
+ghost use Rattle.recover_model.specs.RecoverCalls.{recoverText, recoverLine, recoverEnd};
 ghost use Rattle.clock_follower.specs.Counts.{progressFor};
 ghost use Rattle.c_api.specs.Numbers.{countNumbers};
 ghost use Rattle.c_api.specs.Progress.{progressIn, progressNumbers, Alike, stateIn};

@@ -5,7 +5,6 @@ use mathlib.Core.List.{List}
 use Prim.Native.Nat.{ℕ}
 use lib.ListN.{length}
 use Rattle.model.specs.Calls.{written, countOf, ifRoom}
-use Rattle.model.specs.Carry.{holdLines, configText, leftBy, carry, carryText}
 use Rattle.model.specs.Mark.{Pass, markPlan, mark}
 use Rattle.model.specs.Network.{Network, Config}
 use Rattle.model.specs.NetworkText.{readNetwork}
@@ -13,8 +12,9 @@ use Rattle.model.specs.Plan.{Plan}
 use Rattle.model.specs.PlanText.{readPlan}
 use Rattle.model.specs.Result.{Result, ok, refused, andThen}
 use Rattle.model.specs.Text.{Bytes}
-use Rattle.model.proofs.Carried.{carried-as-marked}
 use Rattle.model.proofs.Lists.{handed}
+use Rattle.carry_model.specs.Carry.{holdLines, configText, leftBy, carry, carryText}
+use Rattle.carry_model.proofs.Carried.{carried-as-marked}
 use Rattle.network_path.specs.Layout.{nodesOf}
 use Rattle.network_path.proofs.StoredLaws.{stored-short}
 use Rattle.marker.specs.declared.targets.Verdict.{Verdict}

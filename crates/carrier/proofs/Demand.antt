@@ -9,16 +9,16 @@ use lib.Dec.{ltb}
 use lib.ListN.{length, take}
 use borrow.Author.Tests.{le-ltb}
 use Rattle.model.specs.Calls.{written, countOf, ifRoom}
-use Rattle.model.specs.Carry.{carry, carried, carryText}
-use Rattle.model.specs.Limits.{maxHoldBytes}
 use Rattle.model.specs.Mark.{Pass, mark}
-use Rattle.model.specs.Places.{_or_, Listed, NetworkRefusal, PlanTextRefusal, MarkerRefusal, ShortHolds}
+use Rattle.model.specs.Places.{_or_, Listed, NetworkRefusal, PlanTextRefusal, MarkerRefusal}
 use Rattle.model.specs.Result.{Result, ok, refused}
 use Rattle.model.specs.Text.{Bytes}
 use Rattle.model.proofs.CallCases.{room-is, row-taken}
-use Rattle.model.proofs.Carried.{carried-bytes}
 use Rattle.model.proofs.Lists.{not-ok, ok-is, handed}
-use Rattle.model.proofs.Requests.{carry-marks, used-as-start, start-accepted, carry-buffer, carry-buffer-after, carry-refusals}
+use Rattle.carry_model.specs.Carry.{carry, carried, carryText, maxHoldBytes}
+use Rattle.carry_model.specs.CarryDemands.{ShortHolds}
+use Rattle.carry_model.proofs.Carried.{carried-bytes}
+use Rattle.carry_model.proofs.Requests.{carry-marks, used-as-start, start-accepted, carry-buffer, carry-buffer-after, carry-refusals}
 use Rattle.hold_lines.specs.Lines.{heldOf}
 use Rattle.hold_lines.specs.declared.Held.{Held}
 use Rattle.hold_lines.specs.declared.Held.the-variants.{Written, Refused}

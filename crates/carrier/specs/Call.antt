@@ -3,8 +3,8 @@
 use mathlib.Core.Path.{_≡_}
 use mathlib.Core.List.{List}
 use Prim.Native.Nat.{ℕ}
-use Rattle.model.specs.Carry.{carryText}
 use Rattle.model.specs.Text.{Bytes}
+use Rattle.carry_model.specs.Carry.{carryText}
 use Rattle.hold_lines.specs.Lines.{heldOf}
 use Rattle.hold_lines.specs.declared.Held.{Held}
 

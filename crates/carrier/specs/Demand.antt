@@ -6,19 +6,19 @@ use mathlib.Core.Logic.{_↔_}
 use mathlib.Core.List.{List, []}
 use Prim.Native.Nat.{ℕ, _≤_}
 use lib.ListN.{length, take}
-use Rattle.model.specs.Carry.{leftBy}
-use Rattle.model.specs.Continued.{NextText, StartsThere, nextText}
 use Rattle.model.specs.Demands.{OnlyFirst}
-use Rattle.model.specs.Limits.{maxHoldBytes}
 use Rattle.model.specs.Mark.{Pass, mark}
 use Rattle.model.specs.Network.{Network}
 use Rattle.model.specs.NetworkText.{readNetwork}
-use Rattle.model.specs.Places.{_or_, NetworkRefusal, PlanTextRefusal, MarkerRefusal, ShortHolds}
+use Rattle.model.specs.Places.{_or_, NetworkRefusal, PlanTextRefusal, MarkerRefusal}
 use Rattle.model.specs.Plan.{Plan}
 use Rattle.model.specs.PlanText.{readPlan}
-use Rattle.model.specs.Restart.{restarted}
 use Rattle.model.specs.Result.{ok}
 use Rattle.model.specs.Text.{Bytes}
+use Rattle.carry_model.specs.Carry.{leftBy, maxHoldBytes}
+use Rattle.carry_model.specs.Continued.{NextText, StartsThere, nextText}
+use Rattle.carry_model.specs.Restart.{restarted}
+use Rattle.carry_model.specs.CarryDemands.{ShortHolds}
 use Rattle.hold_lines.specs.declared.Held.{Held}
 use Rattle.hold_lines.specs.declared.Held.the-variants.{Written, Refused}
 use Rattle.carrier.specs.Call.{CarryReturned}

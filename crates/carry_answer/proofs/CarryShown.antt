@@ -9,11 +9,11 @@ use lib.Dec.{ltb}
 use lib.ListN.{length}
 use borrow.Author.Tests.{le-ltb}
 use Rattle.model.specs.Calls.{written, countOf, ifRoom}
-use Rattle.model.specs.Carry.{carry, carryProgram, carried, carryText}
 use Rattle.model.specs.Printed.{number, line, printed}
 use Rattle.model.specs.Result.{Result, ok, refused, andThen}
 use Rattle.model.specs.Text.{Bytes}
-use Rattle.model.proofs.Carried.{carried-bytes}
+use Rattle.carry_model.specs.Carry.{carry, carryProgram, carried, carryText}
+use Rattle.carry_model.proofs.Carried.{carried-bytes}
 use Rattle.plan_text.specs.Writing.{writeAt}
 use Rattle.hold_lines.specs.declared.Held.{Held}
 use Rattle.hold_lines.specs.declared.Held.the-variants.{Written, Refused}

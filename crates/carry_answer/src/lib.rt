@@ -1,10 +1,10 @@
 // The carry program's lines.
 use carrier::carry;
+use carry_model::MAX_HOLD_BYTES;
 use hold_lines::Held;
-use model::limits::MAX_HOLD_BYTES;
 use program_lines::put_refusal;
+ghost use Rattle.carry_model.specs.Carry.{carryProgram};
 ghost use Rattle.io.specs.Counts.{Counts};
-ghost use Rattle.model.specs.Carry.{carryProgram};
 ghost use Rattle.program_text.specs.Printing.{PrintedTo};
 
 // Room for the lines of every configuration. The line of a refusal is shorter.

@@ -13,12 +13,12 @@ use borrow.Author.Tests.{ltb-false, le-ltb, ne-eqb}
 use Rattle.model.specs.Limits.{maxOperations, maxPlanBytes}
 use Rattle.model.specs.Text.{Bytes, bind}
 use Rattle.model.specs.Tap.{Tap, captureDR, shiftDR, next, stateNumber, Clock}
-use Rattle.model.specs.Recover.{Follower, moved, offends, followClock, followClocks}
-use Rattle.model.specs.RecoverCalls.{Progress, progressOf}
-use Rattle.model.proofs.ClockLines.{tmsOf}
-use Rattle.model.proofs.Following.{moved-state, moved-more}
 use Rattle.model.proofs.Lists.{true-false, or-parts}
-use Rattle.model.proofs.TapStates.{counts-of-state}
+use Rattle.recover_model.specs.Recover.{Follower, moved, offends, followClock, followClocks}
+use Rattle.recover_model.specs.RecoverCalls.{Progress, progressOf}
+use Rattle.recover_model.proofs.ClockLines.{tmsOf}
+use Rattle.recover_model.proofs.Following.{moved-state, moved-more}
+use Rattle.recover_model.proofs.TapStates.{counts-of-state}
 use Rattle.clock_writer.specs.Machine.{isOne, nextNumber}
 use Rattle.clock_writer.proofs.Table.{numbered}
 use Rattle.clock_follower.specs.Counts.{movedOn, offending, unlessOffending, countsBy, CountsNothing}

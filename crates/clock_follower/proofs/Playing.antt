@@ -11,10 +11,10 @@ use lib.ListN.{length, drop, getD, length-append, length-drop}
 use lib.Seq.{length-take-le}
 use lib.Dec.{eqb}
 use Rattle.model.specs.Limits.{maxPlanBytes}
-use Rattle.model.specs.RecoverCalls.{Progress, underWay}
 use Rattle.model.specs.Tap.{Tap, reset, idle, selectDR, captureDR, shiftDR, exit1DR, pauseDR, exit2DR, updateDR, selectIR, captureIR, shiftIR, exit1IR, pauseIR, exit2IR, updateIR, byTms, next, stateAt, stateNumber}
 use Rattle.model.specs.Text.{Bytes}
 use Rattle.model.proofs.Lists.{none-some}
+use Rattle.recover_model.specs.RecoverCalls.{Progress, underWay}
 use Rattle.plan_text.specs.Writing.{writeAt}
 use Rattle.clock_writer.specs.Machine.{isOne, nextNumber}
 use Rattle.clock_writer.proofs.Table.{number-at}

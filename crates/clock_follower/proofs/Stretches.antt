@@ -12,8 +12,8 @@ use lib.Dec.{eqb}
 use borrow.Author.Tests.{eq-eqb, ne-eqb, eqb-true}
 use Rattle.model.specs.Text.{Bytes, bytes, lineEnd}
 use Rattle.model.specs.Tap.{Tap, reset, idle, selectDR, captureDR, shiftDR, exit1DR, pauseDR, exit2DR, updateDR, selectIR, captureIR, shiftIR, exit1IR, pauseIR, exit2IR, updateIR, next, stateAt, stateNumber, stateAfter, action, bitByte}
-use Rattle.model.specs.RecoverCalls.{atEntry, atClock, addedText}
 use Rattle.model.proofs.Lists.{drop-map}
+use Rattle.recover_model.specs.RecoverCalls.{atEntry, atClock, addedText}
 use Rattle.text.specs.Runs.{runLength}
 use Rattle.text.proofs.RunLaws.{run-bytes}
 use Rattle.plan_text.specs.Writing.{writeAt}

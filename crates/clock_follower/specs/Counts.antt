@@ -8,7 +8,7 @@ use Prim.Native.Nat.{ℕ, _+_, _*_}
 use lib.Dec.{eqb, ltb}
 use Rattle.model.specs.Limits.{maxOperations, maxPlanBytes}
 use Rattle.model.specs.Tap.{captureDR, shiftDR, selectIR, stateNumber}
-use Rattle.model.specs.RecoverCalls.{Progress}
+use Rattle.recover_model.specs.RecoverCalls.{Progress}
 use Rattle.clock_writer.specs.Machine.{nextNumber}
 use Rattle.clock_follower.specs.declared.Progress.{Progress as Kept}
 use Rattle.clock_follower.specs.declared.Followed.{Followed}

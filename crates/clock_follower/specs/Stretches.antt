@@ -9,7 +9,7 @@ use lib.ListN.{length, drop, getD}
 use lib.Dec.{eqb}
 use Rattle.model.specs.Text.{Bytes, bytes, lineEnd}
 use Rattle.model.specs.Tap.{captureDR, shiftDR, updateDR, stateAt, stateNumber, Clock, clk, bitByte}
-use Rattle.model.specs.RecoverCalls.{Progress, underWay, addedText}
+use Rattle.recover_model.specs.RecoverCalls.{Progress, underWay, addedText}
 use Rattle.plan_text.specs.Writing.{writeAt}
 use Rattle.clock_writer.specs.Machine.{isOne, nextNumber, RunReturned}
 use Rattle.clock_follower.specs.Counts.{countsBy}

@@ -7,8 +7,8 @@ use native.Mathlib.Omega.{arith}
 use lib.ListN.{length, take, drop, getD, take-append-drop, length-drop}
 use lib.Seq.{length-take-le, drop-cons, drop-drop}
 use Rattle.model.specs.Text.{Bytes, lineEnd, parts}
-use Rattle.model.proofs.ClockLines.{clk-text, clk-free}
 use Rattle.model.proofs.PlanTexts.{Free, parts-line}
+use Rattle.recover_model.proofs.ClockLines.{clk-text, clk-free}
 use Rattle.text.specs.Places.{bytesBefore, IsEnd}
 use Rattle.clock_line.proofs.Lines.{HasClocks}
 

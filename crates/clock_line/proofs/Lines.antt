@@ -10,14 +10,13 @@ use lib.ListN.{length, take, drop, getD, length-map, length-drop, take-append-dr
 use lib.Dec.{leb, ltb}
 use lib.Seq.{drop-cons, drop-drop, drop-at, take-at, getD-at, getD-drop, take-all}
 use borrow.Author.Tests.{ltb-true, ltb-false, leb-false}
-use Rattle.model.specs.ClockText.{clkLine}
-use Rattle.model.specs.Limits.{maxLineBytes}
 use Rattle.model.specs.Printed.{pins}
 use Rattle.model.specs.Tap.{Clock, clk, bitByte}
 use Rattle.model.specs.Text.{Bytes, bytes, tab, same}
-use Rattle.model.proofs.ClockLines.{tmsOf, tdiOf, clkText, length-clk, length-pins, pins-map, clk-written, clk-text}
 use Rattle.model.proofs.Lists.{true-false}
 use Rattle.model.proofs.PlanTexts.{same-is}
+use Rattle.recover_model.specs.ClockText.{clkLine, maxLineBytes}
+use Rattle.recover_model.proofs.ClockLines.{tmsOf, tdiOf, clkText, length-clk, length-pins, pins-map, clk-written, clk-text}
 use Rattle.plan_text.specs.Lines.{bitRun}
 use Rattle.plan_text.proofs.Bits.{run-is, run-front}
 use Rattle.text.specs.Runs.{inRun, runLength}

@@ -5,10 +5,9 @@ use mathlib.Core.Option.{Option, none, some}
 use mathlib.Core.List.{List}
 use Prim.Native.Nat.{ℕ, _+_, _-_, _≤_, _<_}
 use lib.ListN.{length, take, drop}
-use Rattle.model.specs.ClockText.{clkLine}
-use Rattle.model.specs.Limits.{maxLineBytes}
 use Rattle.model.specs.Tap.{Clock}
 use Rattle.model.specs.Text.{Bytes, lineEnd}
+use Rattle.recover_model.specs.ClockText.{clkLine, maxLineBytes}
 use Rattle.text.specs.Places.{IsEnd}
 
 -- none has 0: a `clk` line has at least one

@@ -1,11 +1,11 @@
 // One line of a text of clocks, without its byte 10: its form, and its TMS and TDI bits as parts of it.
-use model::limits::MAX_LINE_BYTES;
+use recover_model::MAX_LINE_BYTES;
 use text::runs::all_in;
 use text::runs::far_end_of;
 ghost use mathlib.Core.Path.{_≡_};
 ghost use Prim.Native.Nat.{_+_, _≤_};
 ghost use lib.ListN.{length, take, drop};
-ghost use Rattle.model.specs.ClockText.{clkLine};
+ghost use Rattle.recover_model.specs.ClockText.{clkLine};
 ghost use Rattle.clock_line.specs.Line.{clockCount, FitsClocks, IsFound};
 
 // How many clocks a line of this length has room for: the word and two tabs are 5 bytes, each clock 2. 0 where there is none, a byte

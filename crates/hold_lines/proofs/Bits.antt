@@ -7,11 +7,11 @@ use mathlib.Core.List.{List, [], _∷_, _++_, map, map-append, reverse, reverse-
 use Prim.Native.Nat.{ℕ, _+_, _-_, _≤_, _<_}
 use native.Mathlib.Omega.{arith}
 use lib.ListN.{length, set, length-map, length-reverse}
-use Rattle.model.specs.Carry.{tritByte}
 use Rattle.model.specs.Network.{tabulate}
 use Rattle.model.specs.Path.{bitValue}
 use Rattle.model.specs.Text.{Bytes, Trit}
 use Rattle.model.proofs.Lists.{length-tabulate, tabulate-step, tabulate-none, tabulate-whole}
+use Rattle.carry_model.specs.Carry.{tritByte}
 use Rattle.plan_text.specs.Writing.{writeAt}
 use Rattle.plan_text.proofs.Writing.{write-more}
 use Rattle.program_lines.specs.Puts.{Puts}

@@ -9,11 +9,11 @@ use native.Mathlib.Nat.{add-zero}
 use lib.Dec.{eqb, ltb}
 use lib.ListN.{length, getD, length-append, length-map, length-reverse}
 use borrow.Author.Tests.{lt-ltb, le-ltb}
-use Rattle.model.specs.Carry.{tritByte, holdLine, holdLines}
 use Rattle.model.specs.Network.{segment, multiplexer, Config, at, isSegment, lenOf, tabulate}
 use Rattle.model.specs.Printed.{number, fieldsOf, line}
 use Rattle.model.specs.Text.{Bytes, bytes, Trit}
 use Rattle.model.proofs.Lists.{length-tabulate}
+use Rattle.carry_model.specs.Carry.{tritByte, holdLine, holdLines}
 use Rattle.network_words.specs.Words.{tritsOf, tritAt}
 use Rattle.network_path.specs.Layout.{fieldAt, nodeAt, configOf, inputsAt}
 use Rattle.network_path.proofs.ConfigLaws.{at-tabulate}

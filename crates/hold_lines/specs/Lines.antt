@@ -6,11 +6,11 @@ use mathlib.Core.List.{List, []}
 use Prim.Native.Nat.{ℕ, _≤_}
 use lib.ListN.{length, getD}
 use Rattle.model.specs.Calls.{written, countOf, ifRoom}
-use Rattle.model.specs.Carry.{holdLine, holdLines}
 use Rattle.model.specs.Limits.{maxNodes}
 use Rattle.model.specs.Network.{isSegment, lenOf}
 use Rattle.model.specs.Result.{Result, ok, refused}
 use Rattle.model.specs.Text.{Bytes}
+use Rattle.carry_model.specs.Carry.{holdLine, holdLines}
 use Rattle.network_words.specs.Words.{wordWidth, tritsOf}
 use Rattle.network_path.specs.Layout.{nodeAt, nodesOf, configOf}
 use Rattle.network_path.specs.Answers.{ConfigSized}

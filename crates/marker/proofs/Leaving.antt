@@ -8,9 +8,9 @@ use Rattle.model.specs.Network.{Network as ModelNetwork}
 use Rattle.model.specs.Path.{Walk, path, stop, walk}
 use Rattle.model.specs.Plan.{Plan}
 use Rattle.model.specs.Mark.{Run, markPlan}
-use Rattle.model.specs.Carry.{leftBy}
-use Rattle.model.proofs.LeftConfig.{left-last}
 use Rattle.model.proofs.Lists.{not-ok, ok-is}
+use Rattle.carry_model.specs.Carry.{leftBy}
+use Rattle.carry_model.proofs.LeftConfig.{left-last}
 use Rattle.plan_text.specs.Form.{formOf, planForm}
 use Rattle.plan_text.specs.declared.Form.{Form}
 use Rattle.plan_text.specs.declared.Form.the-variants.{Refused as Bad}

@@ -8,7 +8,7 @@ use Rattle.model.specs.Plan.{Plan}
 use Rattle.model.specs.NetworkText.{readNetwork}
 use Rattle.model.specs.PlanText.{readPlan}
 use Rattle.model.specs.Mark.{Pass, markPlan}
-use Rattle.model.specs.Carry.{leftBy}
+use Rattle.carry_model.specs.Carry.{leftBy}
 use Rattle.network_path.specs.Layout.{configOf}
 use Rattle.network_path.specs.Answers.{ConfigSized}
 use Rattle.network_path.specs.Stored.{Stored}

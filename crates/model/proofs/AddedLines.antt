@@ -3,7 +3,7 @@
 use mathlib.Core.Path.{_≡_, refl, ap, _∙_, subst}
 use mathlib.Core.Bool.{not}
 use mathlib.Core.Option.{Option, none, some}
-use mathlib.Core.List.{List, [], _∷_, _++_, List·Memᴰ, List·Memᴰ·head, List·Memᴰ·tail}
+use mathlib.Core.List.{List, [], _∷_, _++_, append-nil, List·Memᴰ, List·Memᴰ·head, List·Memᴰ·tail}
 use Prim.Native.Nat.{ℕ, suc, _+_}
 use lib.ListN.{length}
 use lib.Dec.{leb, ltb}
@@ -14,7 +14,18 @@ use Rattle.model.specs.Text.{Bytes, lineEnd, parts, ended, linesOf}
 use Rattle.model.proofs.Lists.{not-ok, ok-is, handed, passed-test}
 use Rattle.model.proofs.Reading.{Source}
 
--- ---- the ended lines in turn
+-- ---- the ended lines
+
+pub ended-append : (before : List Bytes) (l : Bytes) (ls : List Bytes) → ended (before ++ l ∷ ls) ≡ before ++ ended (l ∷ ls)
+ended-append [] l ls = refl
+ended-append (k ∷ []) l ls = refl
+ended-append (k ∷ j ∷ before) l ls = ap (λ (x : List Bytes). k ∷ x) (ended-append (j ∷ before) l ls)
+
+-- lines that a separator ends each
+pub ended-all : (ls : List Bytes) → ended (ls ++ [] ∷ []) ≡ ls
+ended-all ls = ended-append ls [] [] ∙ append-nil ls
+
+-- ---- in turn
 
 unfoldable pub addAll : Draft → ℕ → List Bytes → Result (ℕ × Draft)
 addAll d n [] = ok (n, d)

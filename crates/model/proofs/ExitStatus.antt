@@ -1,28 +1,25 @@
 -- The exit status tells refusals: only their line begins with `fail`.
 -- Assumes nothing.
 use mathlib.Core.Path.{_≡_, refl, sym, ap, _∙_}
-use mathlib.Core.Bool.{Bool, true, false, cond}
-use mathlib.Core.List.{List, [], _∷_, _++_}
-use Prim.Native.Nat.{ℕ, suc}
+use mathlib.Core.List.{[], _∷_}
+use Prim.Native.Nat.{ℕ}
 use Rattle.model.specs.Limits.{maxPlanBytes}
 use Rattle.model.specs.Result.{Result, ok, refused, andThen}
 use Rattle.model.specs.Text.{Bytes, same}
-use Rattle.model.specs.Network.{Node, Config, Network, at, isSegment}
+use Rattle.model.specs.Network.{Network}
 use Rattle.model.specs.Plan.{Plan}
 use Rattle.model.specs.NetworkText.{readNetwork}
 use Rattle.model.specs.PlanText.{readPlan, writePlan}
 use Rattle.model.specs.Planner.{planFor}
-use Rattle.model.specs.Mark.{markPlan, mark}
+use Rattle.model.specs.Mark.{mark}
 use Rattle.model.specs.Calls.{ifRoom, searchEntries, searchable, found, textOf, planned}
-use Rattle.model.specs.Printed.{printed, showNetwork, readProgram, planProgram, showPass, markProgram, clkLines, clockProgram, recoverProgram, exitStatus}
-use Rattle.model.specs.Recover.{recover}
-use Rattle.model.specs.Carry.{holdLine, holdLines, leftBy, carry, carryProgram}
+use Rattle.model.specs.Printed.{printed, showNetwork, readProgram, planProgram, showPass, markProgram, clkLines, clockProgram, exitStatus}
 use Rattle.model.specs.Demands.{statusFor, StatusTells}
 use Rattle.model.proofs.Lists.{ok-is, handed}
 use Rattle.model.proofs.CallCases.{room-is}
 
 -- a result, and what shows one never begins with `fail`
-status-by : {A : Type 0} (show : A → Bytes) (r : Result A) → ((a : A) → r ≡ ok a → exitStatus (show a) ≡ 0) → exitStatus (printed show r) ≡ statusFor r
+pub status-by : {A : Type 0} (show : A → Bytes) (r : Result A) → ((a : A) → r ≡ ok a → exitStatus (show a) ≡ 0) → exitStatus (printed show r) ≡ statusFor r
 unfolding exitStatus same
 status-by show (ok a) h = h a refl
 status-by show (refused number place) h = refl
@@ -32,7 +29,7 @@ unfolding exitStatus same clkLines
 clk-status [] = refl
 clk-status (bs ∷ plan) = refl
 
-csu-status : (plan : Plan) → exitStatus (writePlan plan) ≡ 0
+pub csu-status : (plan : Plan) → exitStatus (writePlan plan) ≡ 0
 unfolding exitStatus same writePlan
 csu-status [] = refl
 csu-status (bs ∷ plan) = refl
@@ -63,29 +60,5 @@ clock-status : (p : Bytes) → exitStatus (clockProgram p) ≡ statusFor (readPl
 unfolding clockProgram
 clock-status p = status-by clkLines (readPlan p) (λ plan e. clk-status plan)
 
-recover-status : (t : Bytes) → exitStatus (recoverProgram t) ≡ statusFor (recover t)
-unfolding recoverProgram
-recover-status t = status-by writePlan (recover t) (λ plan e. csu-status plan)
-
-hold-status : (c : Config) (i : ℕ) (ns : List Node) → exitStatus (holdLines c i ns) ≡ 0
-unfolding exitStatus same holdLines
-hold-status c i [] = refl
-hold-status c i (n ∷ ns) = go (isSegment n) (hold-status c (suc i) ns)
-  where
-    go : (t : Bool) → exitStatus (holdLines c (suc i) ns) ≡ 0 → exitStatus (cond t (holdLine i (at c i [])) [] ++ holdLines c (suc i) ns) ≡ 0
-    go true r = refl
-    go false r = r
-
-carry-status : (n p : Bytes) → exitStatus (carryProgram n p) ≡ statusFor (carry n p)
-unfolding carryProgram carry
-carry-status n p = status-by (λ text. text) (carry n p) shows
-  where
-    shows : (text : Bytes) → carry n p ≡ ok text → exitStatus text ≡ 0
-    shows text e =
-        let a = handed (readNetwork n) _ text e in
-        let b = handed (readPlan p) _ text (a .then) in
-        let c = handed (markPlan (a .value) (b .value)) _ text (b .then) in
-        ap exitStatus (sym (ok-is (c .then))) ∙ hold-status (leftBy (a .value) (b .value)) 1 (a .value .nodes)
-
 pub status-tells : StatusTells
-status-tells = record { reader = read-status; planner = plan-status; marker = mark-status; clock-writer = clock-status; recoverer = recover-status; carrier = carry-status }
+status-tells = record { reader = read-status; planner = plan-status; marker = mark-status; clock-writer = clock-status }

@@ -26,14 +26,6 @@ maxOperations = 16
 abbrev pub maxPlanBytes : ℕ
 maxPlanBytes = 64080
 
--- document 02, Change 2: "a line over 32,768 bytes", of clocks
-abbrev pub maxLineBytes : ℕ
-maxLineBytes = 32768
-
--- document 02, Change 3: a `hold` line for each segment, 5,280 = 128 × 10 + 4,000: the word, two tabs, at most three digits, byte 10; and the bits
-abbrev pub maxHoldBytes : ℕ
-maxHoldBytes = 5280
-
 -- "Planner: 6 distinct steering bits."
 abbrev pub maxSteeringBits : ℕ
 maxSteeringBits = 6

@@ -7,7 +7,7 @@ use mathlib.Core.Logic.{_⊎_}
 use mathlib.Core.List.{List, []}
 use Prim.Native.Nat.{ℕ, suc, _≤_, _<_}
 use lib.ListN.{length}
-use Rattle.model.specs.Limits.{maxTargets, maxNetworkBytes, maxOperations, maxPlanBytes, maxHoldBytes, maxSteeringBits, searchSize}
+use Rattle.model.specs.Limits.{maxTargets, maxNetworkBytes, maxOperations, maxPlanBytes, maxSteeringBits, searchSize}
 use Rattle.model.specs.Refusals as refusal
 use Rattle.model.specs.Result.{Result, ok, refused}
 use Rattle.model.specs.Text.{Bytes, lineEnd, parts, Trit}
@@ -16,7 +16,6 @@ use Rattle.model.specs.Plan.{Plan, ValidPlan}
 use Rattle.model.specs.Tap.{Clock}
 use Rattle.model.specs.NetworkText.{node, lineOf, readNetwork}
 use Rattle.model.specs.Calls.{clocksOf}
-use Rattle.model.specs.RecoverCalls.{Progress, behind}
 
 -- ---- places
 
@@ -131,23 +130,3 @@ pub data MarkerRefusal (n p : Bytes) : ℕ → ℕ → Type 0 where
   not-valid : {k : ℕ} → IsOperation p k → MarkerRefusal n p refusal.configuration k
   -- "17, target | not accessed, or not holding its bits; lowest target"
   not-done : {t : ℕ} → IsTargetNumber n t → MarkerRefusal n p refusal.target t
-
--- a clock text's refusals
-pub data ClockTextRefusal (t : Bytes) : ℕ → ℕ → Type 0 where
-  -- "19, at the first offending line"
-  clock-line : {n : ℕ} → IsLine t n → ClockTextRefusal t refusal.clockLine n
-  clock-unended : (behind (parts lineEnd t) ≡ [] → ⊥) → ClockTextRefusal t refusal.clockLine (behindLines t)
-
--- the refusals of the calls for a line and for the end
-pub data ClockLineRefusal (p : Progress) : ℕ → ℕ → Type 0 where
-  -- "19, at the first offending line": the line that the call is for, or is behind
-  this-line : ClockLineRefusal p refusal.clockLine (suc (p .lines))
-  last-line : ClockLineRefusal p refusal.clockLine (p .lines)
-
--- "13, bytes needed | buffer for plan .. too short"
-pub data ShortPlan (plan : List ℕ) : ℕ → ℕ → Type 0 where
-  short-for : {needed : ℕ} → length plan < needed → needed ≤ maxPlanBytes → ShortPlan plan refusal.buffer needed
-
--- "13, bytes needed", of a buffer for `hold` lines
-pub data ShortHolds (holds : List ℕ) : ℕ → ℕ → Type 0 where
-  short-of : {needed : ℕ} → length holds < needed → needed ≤ maxHoldBytes → ShortHolds holds refusal.buffer needed

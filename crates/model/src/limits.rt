@@ -17,12 +17,6 @@ pub const MAX_OPERATIONS: usize = 16;
 
 pub const MAX_PLAN_BYTES: usize = MAX_OPERATIONS * (MAX_BITS + 5);
 
-// document 02, Change 2: "a line over 32,768 bytes", of clocks
-pub const MAX_LINE_BYTES: usize = 32768;
-
-// document 02, Change 3: a `hold` line for each segment: the word, two tabs, at most three digits, byte 10; and the bits.
-pub const MAX_HOLD_BYTES: usize = MAX_NODES * 10 + MAX_BITS;
-
 // "Planner: 6 distinct steering bits."
 pub const MAX_STEERING_BITS: usize = 6;
 

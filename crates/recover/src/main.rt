@@ -1,6 +1,5 @@
 // recover [CLOCKS]: the plan that `clk` lines play, or `fail` with number and line. The text may be of any length: it is read in
 // parts, and no more is kept than the plan, where the controller stands, and the line that is not ended yet.
-use model::limits::MAX_LINE_BYTES;
 use model::limits::MAX_PLAN_BYTES;
 use program_io::finish::answer;
 use program_io::finish::give_up;
@@ -14,6 +13,7 @@ use program_io::stream::close;
 use program_io::stream::open_operand;
 use program_io::stream::read_part;
 use recover_answer::print_recovery;
+use recover_model::MAX_LINE_BYTES;
 use recoverer::line::Stepped;
 use recoverer::line::at_first;
 use recoverer::part::recover_part;

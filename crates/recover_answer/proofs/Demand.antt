@@ -2,7 +2,7 @@
 -- Assumes nothing.
 use mathlib.Core.Path.{ap, _∙_}
 use Rattle.model.specs.Printed.{printed}
-use Rattle.model.proofs.Requests.{cut-in-parts}
+use Rattle.recover_model.proofs.Requests.{cut-in-parts}
 use Rattle.program_text.proofs.Demand.{writes-shown}
 use Rattle.recover_answer.specs.Demand.{RecoveredWritten}
 use Rattle.recover_answer.proofs.RecoveryShown.{alike-end, took-parts}

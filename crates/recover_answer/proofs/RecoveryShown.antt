@@ -13,13 +13,13 @@ use borrow.Author.Tests.{not-false}
 use Rattle.model.specs.Limits.{maxPlanBytes}
 use Rattle.model.specs.NetworkText.{atEnd}
 use Rattle.model.specs.Printed.{number, line}
-use Rattle.model.specs.RecoverCalls.{Progress, canGoOn, restAnswer, recoverEnd, Recovery, started, recoverPart, recoverParts, recoveryEnd}
 use Rattle.model.specs.Refusals as refusal
 use Rattle.model.specs.Result.{Result, ok, refused}
 use Rattle.model.specs.Tap.{idle, stateNumber}
 use Rattle.model.specs.Text.{Bytes}
-use Rattle.model.proofs.GoesOn.{tested}
 use Rattle.model.proofs.Lists.{not-ok, ok-is, handed, passed-test}
+use Rattle.recover_model.specs.RecoverCalls.{Progress, canGoOn, restAnswer, recoverEnd, Recovery, started, recoverPart, recoverParts, recoveryEnd}
+use Rattle.recover_model.proofs.GoesOn.{tested}
 use Rattle.plan_text.specs.Writing.{writeAt}
 use Rattle.recoverer.specs.Parts.{answerBefore}
 use Rattle.program_text.specs.Printing.{PrintedTo}

@@ -7,11 +7,11 @@ use mathlib.Core.List.{List}
 use Prim.Native.Nat.{ℕ, _≤_, _<_}
 use lib.ListN.{length, take}
 use Rattle.model.specs.Limits.{maxPlanBytes}
-use Rattle.model.specs.Printed.{recoverProgram}
-use Rattle.model.specs.RecoverCalls.{Progress, maxCount}
-use Rattle.model.specs.RecoverDemands.{joinedParts}
 use Rattle.model.specs.Result.{Result}
 use Rattle.model.specs.Text.{Bytes}
+use Rattle.recover_model.specs.RecoverCalls.{Progress, maxCount}
+use Rattle.recover_model.specs.RecoverDemands.{joinedParts}
+use Rattle.recover_model.specs.Recover.{recoverProgram}
 use Rattle.program_text.specs.Printing.{PrintedTo}
 use Rattle.recover_answer.specs.Recovery.{recoveryShown, Took}
 

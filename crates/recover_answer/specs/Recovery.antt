@@ -4,9 +4,9 @@ use mathlib.Core.List.{List, [], _∷_, _++_}
 use Prim.Native.Nat.{ℕ}
 use lib.ListN.{take}
 use Rattle.model.specs.Printed.{printed}
-use Rattle.model.specs.RecoverCalls.{Progress, atFirst, Recovery, recoveryEnd}
 use Rattle.model.specs.Result.{Result, ok}
 use Rattle.model.specs.Text.{Bytes}
+use Rattle.recover_model.specs.RecoverCalls.{Progress, atFirst, Recovery, recoveryEnd}
 use Rattle.recoverer.specs.Parts.{answerBefore, DidPart}
 
 abbrev pub holding : Result Progress → Bytes → Bytes → Recovery

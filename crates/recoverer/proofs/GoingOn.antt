@@ -7,8 +7,8 @@ use native.Mathlib.Omega.{arith}
 use lib.Dec.{eqb, leb}
 use borrow.Author.Tests.{lt-ltb, le-leb, lt-leb}
 use Rattle.model.specs.Limits.{maxOperations, maxPlanBytes}
-use Rattle.model.specs.RecoverCalls.{Progress, maxCount, underWay, canGoOn, bytesWritten}
-use Rattle.model.proofs.GoesOn.{Tested, tested}
+use Rattle.recover_model.specs.RecoverCalls.{Progress, maxCount, underWay, canGoOn, bytesWritten}
+use Rattle.recover_model.proofs.GoesOn.{Tested, tested}
 
 pub cannot : (p : Progress) → (Tested p → ⊥) → false ≡ canGoOn p
 cannot p f = go (canGoOn p) refl

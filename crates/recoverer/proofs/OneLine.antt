@@ -10,19 +10,19 @@ use native.Mathlib.Numerals.{add-one}
 use lib.ListN.{length, take, drop}
 use lib.Seq.{drop-drop}
 use Rattle.model.specs.Calls.{writeOver}
-use Rattle.model.specs.ClockText.{clkLine}
 use Rattle.model.specs.Limits.{maxPlanBytes}
-use Rattle.model.specs.Recover.{Follower, followClocks, ifFollowed}
-use Rattle.model.specs.RecoverCalls.{Progress, progressOf, underWay, canGoOn, addedText, bytesWritten, resumed, Step, stepOver, stepLine, LineAnswer, recoverLine}
 use Rattle.model.specs.Refusals as refusal
 use Rattle.model.specs.Result.{Result, ok, refused}
 use Rattle.model.specs.Tap.{Clock, stateAt}
 use Rattle.model.specs.Text.{Bytes, bind}
-use Rattle.model.proofs.ClockLines.{tmsOf}
-use Rattle.model.proofs.GoesOn.{tested, resumes}
 use Rattle.model.proofs.LineForms.{bound}
 use Rattle.model.proofs.Lists.{some-same, not-ok, ok-is, passed-test}
-use Rattle.model.proofs.StepDone.{if-followed, step-done, line-refused, line-stepped, line-short}
+use Rattle.recover_model.specs.ClockText.{clkLine}
+use Rattle.recover_model.specs.Recover.{Follower, followClocks, ifFollowed}
+use Rattle.recover_model.specs.RecoverCalls.{Progress, progressOf, underWay, canGoOn, addedText, bytesWritten, resumed, Step, stepOver, stepLine, LineAnswer, recoverLine}
+use Rattle.recover_model.proofs.ClockLines.{tmsOf}
+use Rattle.recover_model.proofs.GoesOn.{tested, resumes}
+use Rattle.recover_model.proofs.StepDone.{if-followed, step-done, line-refused, line-stepped, line-short}
 use Rattle.plan_text.specs.Writing.{writeAt}
 use Rattle.plan_text.proofs.Writing.{write-none}
 use Rattle.clock_writer.specs.Machine.{isOne}

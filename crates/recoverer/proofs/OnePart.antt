@@ -6,12 +6,12 @@ use native.Mathlib.Omega.{arith}
 use lib.ListN.{length, take, drop, length-drop}
 use lib.Seq.{length-take-le, take-all}
 use Rattle.model.specs.Calls.{writeOver}
-use Rattle.model.specs.RecoverCalls.{Progress, behind, heldAfter, Recovery, recoverPart}
 use Rattle.model.specs.Result.{Result, ok, refused}
 use Rattle.model.specs.Text.{Bytes, parts, lineEnd}
 use Rattle.model.proofs.CallCases.{row-taken}
 use Rattle.model.proofs.Lists.{not-ok}
-use Rattle.model.proofs.OnePart.{part-short}
+use Rattle.recover_model.specs.RecoverCalls.{Progress, behind, heldAfter, Recovery, recoverPart}
+use Rattle.recover_model.proofs.OnePart.{part-short}
 use Rattle.plan_text.proofs.Writing.{over-length}
 use Rattle.recoverer.specs.Parts.{DidLines, withRest, answerBefore, DidPart}
 

@@ -5,12 +5,12 @@ use mathlib.Core.List.{List, [], _∷_}
 use Prim.Native.Nat.{ℕ, _+_, _-_, _≤_, _<_}
 use native.Mathlib.Omega.{arith}
 use lib.ListN.{length, take, drop, drop-of-length-le}
-use Rattle.model.specs.RecoverCalls.{Progress, LineAnswer, recoverLine, goOn, recoverLines, behind}
 use Rattle.model.specs.Result.{Result, ok, refused}
 use Rattle.model.specs.Text.{Bytes, parts, ended, lineEnd}
 use Rattle.model.proofs.Lists.{not-ok}
 use Rattle.model.proofs.PlanTexts.{parts-more}
-use Rattle.model.proofs.RecoverBuffers.{line-buffer-kept, line-buffer-written}
+use Rattle.recover_model.specs.RecoverCalls.{Progress, LineAnswer, recoverLine, goOn, recoverLines, behind}
+use Rattle.recover_model.proofs.RecoverBuffers.{line-buffer-kept, line-buffer-written}
 use Rattle.text.specs.Places.{IsEnd}
 use Rattle.text.proofs.Parts.{rest-alone, rest-ended}
 use Rattle.recoverer.specs.Parts.{PlayedLine, DidLines}

@@ -9,10 +9,10 @@ use lib.ListN.{length, take, drop, set, getD, length-drop}
 use lib.Seq.{length-take-le, getD-append-add, getD-drop, take-all}
 use borrow.Author.Tests.{le-leb, lt-leb}
 use Rattle.model.specs.Calls.{writeOver}
-use Rattle.model.specs.Limits.{maxLineBytes}
-use Rattle.model.specs.RecoverCalls.{Progress, stepLine}
 use Rattle.model.specs.Result.{Result, ok, refused}
 use Rattle.model.specs.Text.{Bytes}
+use Rattle.recover_model.specs.RecoverCalls.{Progress, stepLine}
+use Rattle.recover_model.specs.ClockText.{maxLineBytes}
 use Rattle.plan_text.proofs.Writing.{over-is, put-next, over-length}
 use Rattle.recoverer.specs.Answers.{progressAfter}
 use Rattle.recoverer.specs.Parts.{withRest}

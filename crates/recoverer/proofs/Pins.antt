@@ -6,7 +6,7 @@ use mathlib.Core.List.{List, [], _∷_, map}
 use Rattle.model.specs.Printed.{pins}
 use Rattle.model.specs.Tap.{Clock, bitByte}
 use Rattle.model.specs.Text.{Bytes}
-use Rattle.model.proofs.ClockLines.{tmsOf, tdiOf}
+use Rattle.recover_model.proofs.ClockLines.{tmsOf, tdiOf}
 use Rattle.clock_writer.specs.Machine.{isOne}
 use Rattle.clock_follower.specs.Stretches.{clocksFrom, AreBits}
 

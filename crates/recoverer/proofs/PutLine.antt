@@ -7,12 +7,12 @@ use mathlib.Core.List.{List, map}
 use Prim.Native.Nat.{ℕ, _+_, _-_, _/_, _≤_, _<_}
 use native.Mathlib.Omega.{arith}
 use lib.ListN.{length, take, drop}
-use Rattle.model.specs.ClockText.{clkLine}
 use Rattle.model.specs.Printed.{pins}
-use Rattle.model.specs.RecoverCalls.{addedText}
 use Rattle.model.specs.Tap.{Clock, stateAt, stateNumber, stateAfter}
 use Rattle.model.specs.Text.{Bytes}
-use Rattle.model.proofs.ClockLines.{tmsOf, tdiOf, length-pins}
+use Rattle.recover_model.specs.ClockText.{clkLine}
+use Rattle.recover_model.specs.RecoverCalls.{addedText}
+use Rattle.recover_model.proofs.ClockLines.{tmsOf, tdiOf, length-pins}
 use Rattle.plan_text.specs.Writing.{writeAt}
 use Rattle.clock_writer.specs.Machine.{isOne}
 use Rattle.clock_line.proofs.Lines.{HasClocks, has-clocks}

@@ -8,10 +8,10 @@ use native.Mathlib.Omega.{arith}
 use native.Mathlib.Numerals.{add-one}
 use lib.ListN.{length}
 use borrow.Author.Tests.{eq-eqb, ne-eqb}
-use Rattle.model.specs.RecoverCalls.{Progress, canGoOn, recoverEnd}
 use Rattle.model.specs.Refusals as refusal
 use Rattle.model.specs.Result.{ok, refused}
 use Rattle.model.specs.Text.{Bytes}
+use Rattle.recover_model.specs.RecoverCalls.{Progress, canGoOn, recoverEnd}
 
 module _ (p : Progress) where
   pub end-cannot : (rest : Bytes) → canGoOn p ≡ false → refused refusal.clockLine (p .lines) ≡ recoverEnd p rest

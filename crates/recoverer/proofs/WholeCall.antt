@@ -9,13 +9,13 @@ use lib.Seq.{length-take-le, take-all}
 use borrow.Author.Tests.{le-ltb, lt-ltb}
 use Rattle.model.specs.Calls.{written, countOf, ifRoom}
 use Rattle.model.specs.Limits.{maxPlanBytes}
-use Rattle.model.specs.RecoverCalls.{Progress, atFirst, maxCount, recoverEnd, TextAnswer, recoverText, recoverLines, behind, heldAfter, recoveryEnd}
 use Rattle.model.specs.Refusals as refusal
 use Rattle.model.specs.Result.{Result, ok, refused, andThen}
 use Rattle.model.specs.Text.{Bytes, parts, ended, lineEnd}
-use Rattle.model.proofs.InParts.{turns-end}
-use Rattle.model.proofs.LineByLine.{line-by-line}
-use Rattle.model.proofs.RecoverBuffers.{recover-buffer-written}
+use Rattle.recover_model.specs.RecoverCalls.{Progress, atFirst, maxCount, recoverEnd, TextAnswer, recoverText, recoverLines, behind, heldAfter, recoveryEnd}
+use Rattle.recover_model.proofs.InParts.{turns-end}
+use Rattle.recover_model.proofs.LineByLine.{line-by-line}
+use Rattle.recover_model.proofs.RecoverBuffers.{recover-buffer-written}
 use Rattle.plan_text.specs.Writing.{writeAt}
 use Rattle.plan_text.proofs.Writing.{over-is}
 use Rattle.recoverer.specs.Parts.{DidLines}

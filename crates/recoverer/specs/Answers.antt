@@ -8,8 +8,8 @@ use lib.ListN.{length}
 use Rattle.model.specs.Result.{Result, ok, refused, andThen}
 use Rattle.model.specs.Text.{Bytes}
 use Rattle.model.specs.Tap.{Clock, stateAt, stateNumber, stateAfter}
-use Rattle.model.specs.ClockText.{clkLine}
-use Rattle.model.specs.RecoverCalls.{Progress, Step, addedText}
+use Rattle.recover_model.specs.ClockText.{clkLine}
+use Rattle.recover_model.specs.RecoverCalls.{Progress, Step, addedText}
 use Rattle.plan_text.specs.Writing.{writeAt}
 use Rattle.clock_follower.specs.Counts.{progressFor}
 use Rattle.recoverer.specs.declared.line.Stepped.{Stepped}

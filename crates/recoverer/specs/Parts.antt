@@ -3,10 +3,10 @@
 use mathlib.Core.Path.{_≡_}
 use Prim.Native.Nat.{ℕ, _≤_, _<_}
 use lib.ListN.{length, take, drop}
-use Rattle.model.specs.Limits.{maxLineBytes}
-use Rattle.model.specs.RecoverCalls.{Progress, LineAnswer, recoverLine, recoverLines, behind, unlessLong, heldAfter, recoverPart}
 use Rattle.model.specs.Result.{Result, ok, andThen}
 use Rattle.model.specs.Text.{Bytes, parts, ended, lineEnd}
+use Rattle.recover_model.specs.RecoverCalls.{Progress, LineAnswer, recoverLine, recoverLines, behind, unlessLong, heldAfter, recoverPart}
+use Rattle.recover_model.specs.ClockText.{maxLineBytes}
 
 -- `play_line` answered r for a line; where it did not refuse, it left the plan as plan′
 pub record PlayedLine (p : Progress) (l plan : Bytes) (r : Result Progress) (plan′ : Bytes) : Type 0 where

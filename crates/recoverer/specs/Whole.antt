@@ -6,7 +6,7 @@ use lib.ListN.{length, take}
 use Rattle.model.specs.Result.{Result, ok, andThen}
 use Rattle.model.specs.Text.{Bytes}
 use Rattle.model.specs.Calls.{textOf}
-use Rattle.model.specs.Recover.{recover}
+use Rattle.recover_model.specs.Recover.{recover}
 
 -- the bytes of a text's plan stand at the front of this buffer; or its refusal
 pub record StandsIn (t : Bytes) (r : Result ℕ) (own : Bytes) : Type 0 where

@@ -13,7 +13,7 @@ use model::refusal;
 ghost use mathlib.Core.Path.{_≡_};
 ghost use mathlib.Core.Bool.{cond};
 ghost use Prim.Native.Nat.{_+_, _≤_};
-ghost use Rattle.model.specs.RecoverCalls.{atFirst, underWay, canGoOn, bytesWritten, stepLine, recoverLine, recoverEnd};
+ghost use Rattle.recover_model.specs.RecoverCalls.{atFirst, underWay, canGoOn, bytesWritten, stepLine, recoverLine, recoverEnd};
 ghost use Rattle.clock_follower.specs.Counts.{progressFor};
 ghost use Rattle.recoverer.specs.Answers.{stepped, endAnswer, progressAfter, PutsLine, CanPut};
 

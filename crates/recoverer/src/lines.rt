@@ -13,7 +13,7 @@ use model::refusal;
 ghost use mathlib.Core.Path.{_≡_};
 ghost use Prim.Native.Nat.{_≤_};
 ghost use lib.ListN.{length};
-ghost use Rattle.model.specs.ClockText.{clkLine};
+ghost use Rattle.recover_model.specs.ClockText.{clkLine};
 ghost use Rattle.clock_line.specs.Line.{clockCount};
 ghost use Rattle.clock_follower.specs.Counts.{progressFor};
 ghost use Rattle.recoverer.specs.Answers.{stepped};

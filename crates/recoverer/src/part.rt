@@ -2,7 +2,7 @@
 use crate::line::Stepped;
 use crate::line::check_line;
 use crate::lines::recover_lines;
-use model::limits::MAX_LINE_BYTES;
+use recover_model::MAX_LINE_BYTES;
 ghost use mathlib.Core.Path.{_≡_};
 ghost use Prim.Native.Nat.{_-_, _≤_};
 ghost use lib.ListN.{length, drop};

@@ -11,7 +11,7 @@ ghost use mathlib.Core.Path.{_≡_};
 ghost use Prim.Native.Nat.{_≤_};
 ghost use lib.ListN.{length};
 ghost use Rattle.model.specs.Limits.{maxPlanBytes};
-ghost use Rattle.model.specs.RecoverCalls.{recoverText};
+ghost use Rattle.recover_model.specs.RecoverCalls.{recoverText};
 ghost use Rattle.recoverer.specs.Answers.{endAnswer};
 ghost use Rattle.recoverer.specs.Whole.{StandsIn};
 

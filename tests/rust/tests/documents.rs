@@ -58,10 +58,11 @@ fn every_number_in_every_list() {
     let defined = equations(&read("crates/model/specs/Refusals.antt"), "", "");
     assert_eq!(numbers(&defined), constants, "Refusals.antt");
     // The rows with the places that a number can have.
-    let places = read("crates/model/specs/Places.antt");
+    let places = ["model/specs/Places.antt", "recover_model/specs/RecoverDemands.antt"];
+    let places = places.map(|file| read(&format!("crates/{file}"))).concat();
     for (name, _) in &defined {
         let row = format!("refusal.{name} ");
-        assert!(places.contains(&row), "Places.antt has no row of {name}");
+        assert!(places.contains(&row), "no row of {name} with its places");
     }
     // A row of one refusal: its number and its place.
     let readme = read("README.md");

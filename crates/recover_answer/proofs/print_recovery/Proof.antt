@@ -2,12 +2,12 @@
 -- Assumes nothing.
 use mathlib.Core.Path.{ap, _∙_}
 use borrow.Author.Needs.{needs}
-use Rattle.recover_answer.proofs.RecoveryShown.{shown-refused, shown-as}
-use Rattle.program_text.proofs.Front.{at-front, printed-to}
-use Rattle.recover_answer.specs.Recovery.{recoveryShown}
-use Rattle.model.specs.RecoverCalls.{Progress}
 use Rattle.model.specs.Result.{Result}
+use Rattle.recover_model.specs.RecoverCalls.{Progress}
+use Rattle.program_text.proofs.Front.{at-front, printed-to}
 use Rattle.recoverer.specs.Answers.{stepped}
+use Rattle.recover_answer.specs.Recovery.{recoveryShown}
+use Rattle.recover_answer.proofs.RecoveryShown.{shown-refused, shown-as}
 use Rattle.recover_answer.proofs.print_recovery.Statement.{statement}
 use Rattle.recover_answer.proofs.print_recovery.Tie as tie
 

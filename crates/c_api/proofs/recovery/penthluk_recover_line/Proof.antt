@@ -2,9 +2,9 @@
 -- Assumes nothing.
 use mathlib.Core.Path.{ap, _∙_}
 use borrow.Author.Needs.{needs}
-use Rattle.c_api.proofs.Progressed.{by-progress}
+use Rattle.recover_model.specs.RecoverCalls.{LineAnswer}
 use Rattle.recoverer.specs.Answers.{stepped}
-use Rattle.model.specs.RecoverCalls.{LineAnswer}
+use Rattle.c_api.proofs.Progressed.{by-progress}
 use Rattle.c_api.proofs.recovery.penthluk_recover_line.Statement.{statement}
 use Rattle.c_api.proofs.recovery.penthluk_recover_line.Tie as tie
 

@@ -5,7 +5,7 @@ use mathlib.Core.Path.{sym, ap, _∙_}
 use native.Mathlib.Omega.{arith}
 use borrow.Author.Tests.{eq-eqb, ne-eqb}
 use borrow.Author.Needs.{needs}
-use Rattle.model.specs.RecoverCalls.{underWay}
+use Rattle.recover_model.specs.RecoverCalls.{underWay}
 use Rattle.clock_follower.specs.Counts.{progressFor}
 use Rattle.recoverer.proofs.GoingOn.{cannot, first-tests, some-bytes, no-bytes}
 use Rattle.recoverer.proofs.line.can_go_on.Statement.{statement}

@@ -4,9 +4,9 @@ use mathlib.Core.Path.{sym, _∙_}
 use native.Mathlib.Omega.{arith}
 use borrow.Author.Tests.{not-true, not-false}
 use borrow.Author.Needs.{needs}
-use Rattle.recoverer.proofs.TextEnd.{end-cannot, end-unended, end-outside, end-at-rest}
-use Rattle.model.proofs.GoesOn.{tested}
+use Rattle.recover_model.proofs.GoesOn.{tested}
 use Rattle.clock_follower.specs.Counts.{progressFor}
+use Rattle.recoverer.proofs.TextEnd.{end-cannot, end-unended, end-outside, end-at-rest}
 use Rattle.recoverer.proofs.line.recover_end.Statement.{statement}
 use Rattle.recoverer.proofs.line.recover_end.Tie as tie
 

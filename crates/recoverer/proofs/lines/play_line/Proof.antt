@@ -7,14 +7,14 @@ use native.Mathlib.Omega.{arith}
 use lib.ListN.{length, length-take, drop}
 use borrow.Author.Tests.{not-true, not-false}
 use borrow.Author.Needs.{needs}
-use Rattle.recoverer.proofs.OneLine.{cannot-go-on, no-clocks, step-followed, play-refused, play-written}
-use Rattle.recoverer.proofs.PutLine.{rows-as-long, row-of-bits, rows-text}
+use Rattle.model.specs.Text.{Bytes}
+use Rattle.recover_model.proofs.GoesOn.{tested}
 use Rattle.clock_line.proofs.Lines.{counted-clocks}
 use Rattle.clock_follower.specs.Counts.{progressFor, followedFor, countsBy}
 use Rattle.clock_writer.specs.Machine.{isOne}
 use Rattle.plan_text.specs.Writing.{writeAt}
-use Rattle.model.proofs.GoesOn.{tested}
-use Rattle.model.specs.Text.{Bytes}
+use Rattle.recoverer.proofs.OneLine.{cannot-go-on, no-clocks, step-followed, play-refused, play-written}
+use Rattle.recoverer.proofs.PutLine.{rows-as-long, row-of-bits, rows-text}
 use Rattle.recoverer.proofs.lines.play_line.Statement.{statement}
 use Rattle.recoverer.proofs.lines.play_line.Tie as tie
 

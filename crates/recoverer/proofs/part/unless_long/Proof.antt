@@ -2,12 +2,12 @@
 -- Assumes nothing.
 use mathlib.Core.Path.{sym, ap, _∙_}
 use borrow.Author.Needs.{needs}
-use Rattle.recoverer.proofs.PartRest.{rest-short, rest-long}
 use Rattle.model.specs.Result.{Result}
-use Rattle.model.specs.RecoverCalls.{Progress}
+use Rattle.recover_model.specs.RecoverCalls.{Progress}
+use Rattle.clock_follower.specs.Counts.{progressFor}
 use Rattle.recoverer.specs.Parts.{withRest}
 use Rattle.recoverer.specs.Answers.{stepped}
-use Rattle.clock_follower.specs.Counts.{progressFor}
+use Rattle.recoverer.proofs.PartRest.{rest-short, rest-long}
 use Rattle.recoverer.proofs.part.unless_long.Statement.{statement}
 use Rattle.recoverer.proofs.part.unless_long.Tie as tie
 

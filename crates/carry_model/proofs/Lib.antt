@@ -1,0 +1,20 @@
+-- Why the promises of Change 3 of document 02 hold of the definitions: laws first, last the promises.
+pub mod LeftConfig
+pub mod TextLines
+pub mod HoldText
+pub mod Carried
+pub mod CarryCall
+pub mod WordLines
+pub mod LinesByKind
+pub mod LineLengths
+pub mod TextLengths
+pub mod HeldStart
+pub mod NextStart
+pub mod NextAccepted
+pub mod Restarting
+pub mod JoinedPlans
+pub mod JoinedTexts
+pub mod PassInTurnMet
+pub mod CarryStatus
+pub mod CarryRows
+pub mod Requests
