@@ -76,11 +76,11 @@ staying state m stays = record { no-capture = leaves state 3 m from-3 stays; no-
 
 -- ---- what keeps within the limits
 
-pub record Within (p : Progress) : Type 0 where
+pub record KeepsLimits (p : Progress) : Type 0 where
   pub few : p .entries ≤ maxOperations
   pub short : p .planBytes ≤ maxPlanBytes
 
-pub within-limits : (p : Progress) → offending p ≡ false → Within p
+pub within-limits : (p : Progress) → offending p ≡ false → KeepsLimits p
 within-limits p o =
     let x = or-parts (eqb (p .state) 9 || ltb maxOperations (p .entries)) (ltb maxPlanBytes (p .planBytes)) o in
     let y = or-parts (eqb (p .state) 9) (ltb maxOperations (p .entries)) (x .0) in
@@ -173,7 +173,7 @@ went-on r m e = let x = go (offending m) e in (x .0, ap offending (x .0) ∙ x .
 -- what has passed i clocks, to state t: the counts from there on come to those of all clocks
 pub record GoesOn (p : Progress) (tms : Bytes) (i t : ℕ) (r : Progress) : Type 0 where
   pub state : r .state ≡ t
-  pub limits : Within r
+  pub limits : KeepsLimits r
   pub whole : countsBy r (map isOne (drop i tms)) ≡ countsBy p (map isOne tms)
 
 module _ (p q : Progress) (tms : Bytes) (i end t : ℕ) (whole : countsBy q (map isOne (drop i tms)) ≡ countsBy p (map isOne tms)) (x : IsStretch (q .state) (drop i tms) (end - i) t) where
@@ -212,7 +212,7 @@ module _ (q m : Progress) (x : Bool) (moves : q ≡ m) (tested : x ≡ offending
   passes f = let y : offending q ≡ false = sym tested ∙ f in sym (ap unlessOffending (sym moves) ∙ rw y)
 
 -- one that counts nothing changes only the state
-pub counted-nothing : (p : Progress) (count t : ℕ) → CountsNothing (p .state) t → Within p → some (counting (p .lines) t (p .entries) (p .planBytes)) ≡ unlessOffending (movedOn p count t)
+pub counted-nothing : (p : Progress) (count t : ℕ) → CountsNothing (p .state) t → KeepsLimits p → some (counting (p .lines) t (p .entries) (p .planBytes)) ≡ unlessOffending (movedOn p count t)
 counted-nothing p count t x w =
     let same : movedOn p count t ≡ counting (p .lines) t (p .entries) (p .planBytes) = rw (x .no-bits, x .no-entry) (same-counts (p .lines) t (omega arith) (omega arith)) in
     let good : offending (counting (p .lines) t (p .entries) (p .planBytes)) ≡ false = rw (x .no-IR, le-ltb maxOperations (p .entries) (w .few), le-ltb maxPlanBytes (p .planBytes) (w .short)) in

@@ -20,7 +20,7 @@ use Rattle.clock_writer.specs.Machine.{isOne, nextNumber}
 use Rattle.clock_writer.proofs.Table.{number-at}
 use Rattle.clock_follower.specs.Counts.{movedOn, unlessOffending, countsBy}
 use Rattle.clock_follower.specs.Stretches.{EndsStretch, stretchText, AreBits, StandsBefore, Played}
-use Rattle.clock_follower.proofs.Counts.{IsStretch, Within, went-on, counts-stop, counts-on, counts-end}
+use Rattle.clock_follower.proofs.Counts.{IsStretch, KeepsLimits, went-on, counts-stop, counts-on, counts-end}
 use Rattle.clock_follower.proofs.Stretches.{stretch-of, bitsFrom, WrittenTo, written-start, written-end, written-on}
 
 -- from state s to state t, both by number
@@ -53,12 +53,12 @@ keeps bits updateIR = either bits updateIR _ _ refl refl
 
 -- up to clock i, with a progress and a place
 pub record PlayedTo (p₀ : Progress) (at₀ : ℕ) (tms tdi plan₀ plan : Bytes) (p : Progress) (at i : ℕ) : Type 0 where
-  pub limits : Within p
+  pub limits : KeepsLimits p
   pub counted : countsBy p (map isOne (drop i tms)) ≡ countsBy p₀ (map isOne tms)
   pub written : WrittenTo (p₀ .state) at₀ tms tdi plan₀ plan (p .state) at i
   pub stands : StandsBefore at (p .state) (p .planBytes)
 
-pub played-start : (p : Progress) (at : ℕ) (tms tdi plan : Bytes) → p .state < 16 → Within p → StandsBefore at (p .state) (p .planBytes) → PlayedTo p at tms tdi plan plan p at 0
+pub played-start : (p : Progress) (at : ℕ) (tms tdi plan : Bytes) → p .state < 16 → KeepsLimits p → StandsBefore at (p .state) (p .planBytes) → PlayedTo p at tms tdi plan plan p at 0
 played-start p at tms tdi plan known limits stands = record { limits = limits; counted = refl; written = written-start (p .state) at tms tdi plan known; stands = stands }
 
 module _ (p₀ : Progress) (at₀ : ℕ) (tms tdi plan₀ plan : Bytes) (p : Progress) (at i : ℕ) (so : PlayedTo p₀ at₀ tms tdi plan₀ plan p at i) where

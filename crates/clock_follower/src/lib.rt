@@ -21,13 +21,13 @@ ghost use Rattle.plan_text.specs.Writing.{writeAt};
 ghost use Rattle.clock_follower.specs.Counts.{progressFor, movedOn, offending, unlessOffending, followedFor, countsBy, CountsNothing};
 ghost use Rattle.clock_follower.specs.Stretches.{EndsStretch, clocksText, entryText, stretchText, clocksFrom, AreBits, Wrote, StandsBefore, Played};
 
-const CAPTURE_DR: u8 = 3;
+pub const CAPTURE_DR: u8 = 3;
 
 const SHIFT_DR: u8 = 4;
 
 const PAUSE_DR: u8 = 6;
 
-const UPDATE_DR: u8 = 8;
+pub const UPDATE_DR: u8 = 8;
 
 const SELECT_IR: u8 = 9;
 

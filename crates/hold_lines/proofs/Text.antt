@@ -22,7 +22,7 @@ use Rattle.plan_text.proofs.Writing.{over-is}
 use Rattle.program_lines.specs.Puts.{Puts}
 use Rattle.program_lines.proofs.Parts.{puts-none, puts-more}
 use Rattle.hold_lines.specs.Lines.{lineAt, textAt, LineLength, TextLength, InWords, GivesText}
-use Rattle.hold_lines.specs.declared.Held.the-variants.{Written as Filled, Refused}
+use Rattle.hold_lines.specs.declared.Held.the-variants.{Written, Refused}
 
 -- ---- one line
 
@@ -148,12 +148,12 @@ words-to ns count s w l = record { most = omega (arith, w .most); short = λ k h
 
 -- ---- the lines of nodes 1 to s are written, and the next place is behind them
 
-pub record Written (ns bits known out₀ : List ℕ) (s at : ℕ) (out : List ℕ) : Type 0 where
+pub record PutLines (ns bits known out₀ : List ℕ) (s at : ℕ) (out : List ℕ) : Type 0 where
   pub puts : Puts 0 (upTo ns bits known s) out₀ at out
   pub kept : length out ≡ length out₀
 
 module _ (ns bits known out₀ : List ℕ) where
-  pub written-none : Written ns bits known out₀ 0 0 out₀
+  pub written-none : PutLines ns bits known out₀ 0 0 out₀
   unfolding upTo
   written-none = record { puts = puts-none 0 out₀; kept = refl }
 
@@ -165,7 +165,7 @@ module _ (ns bits known out₀ : List ℕ) where
       let k : s + suc more ≡ suc (s + more) = omega arith in
       rw k (omega (arith, up-longer s more, length-append (upTo ns bits known (s + more)) (lineAt ns bits known (suc (s + more)))))
 
-  module _ (count s at : ℕ) (out : List ℕ) (w : Written ns bits known out₀ s at out) (more : s < count) (room : length (textAt ns bits known count) ≤ length out₀) where
+  module _ (count s at : ℕ) (out : List ℕ) (w : PutLines ns bits known out₀ s at out) (more : s < count) (room : length (textAt ns bits known count) ≤ length out₀) where
     -- room for the next line
     pub line-fits : at + length (lineAt ns bits known (s + 1)) ≤ length out
     unfolding upTo
@@ -175,13 +175,13 @@ module _ (ns bits known out₀ : List ℕ) where
         let l = up-longer (suc s) (count - suc s) in
         rw k (omega (arith, rw m at l, w .puts .behind, w .kept, room, ap length (text-is ns bits known count), length-append (upTo ns bits known s) (lineAt ns bits known (suc s))))
 
-    pub written-more : (at′ : ℕ) (out′ : List ℕ) → Puts at (lineAt ns bits known (s + 1)) out at′ out′ → length out′ ≡ length out → Written ns bits known out₀ (s + 1) at′ out′
+    pub written-more : (at′ : ℕ) (out′ : List ℕ) → Puts at (lineAt ns bits known (s + 1)) out at′ out′ → length out′ ≡ length out → PutLines ns bits known out₀ (s + 1) at′ out′
     unfolding upTo
     written-more at′ out′ p kept =
         let k : s + 1 ≡ suc s = omega arith in
         rw k (record { puts = puts-more (w .puts) (rw k at p) (omega (arith, line-fits, w .kept)); kept = kept ∙ w .kept })
 
-  pub written-all : (count s at : ℕ) (out : List ℕ) → s ≤ count → count ≤ s → Written ns bits known out₀ s at out → out ≡ writeAt 0 (textAt ns bits known count) out₀
+  pub written-all : (count s at : ℕ) (out : List ℕ) → s ≤ count → count ≤ s → PutLines ns bits known out₀ s at out → out ≡ writeAt 0 (textAt ns bits known count) out₀
   written-all count s at out l h w =
       let k : s ≡ count = omega arith in
       w .puts .holds ∙ ap (λ (t : Bytes). writeAt 0 t out₀) (ap (upTo ns bits known) k ∙ sym (text-is ns bits known count))
@@ -192,6 +192,6 @@ pub too-short : (text out : List ℕ) (needed : ℕ) → needed ≡ length text 
 too-short text out needed e h = let b : ltb (length out) (length text) ≡ true = lt-ltb (length out) (length text) (omega (arith, h)) in
     record { result = rw (b, e); left = rw b }
 
-pub enough : (text out out′ : List ℕ) (needed : ℕ) → needed ≡ length text → needed ≤ length out → out′ ≡ writeAt 0 text out → GivesText text out (Filled needed) out′
+pub enough : (text out out′ : List ℕ) (needed : ℕ) → needed ≡ length text → needed ≤ length out → out′ ≡ writeAt 0 text out → GivesText text out (Written needed) out′
 enough text out out′ needed e h w = let b : ltb (length out) (length text) ≡ false = le-ltb (length out) (length text) (omega (arith, h)) in
     record { result = rw (b, e); left = rw b (w ∙ sym (over-is text out)) }

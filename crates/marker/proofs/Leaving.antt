@@ -2,7 +2,7 @@
 -- Assumes nothing.
 use mathlib.Core.Path.{_≡_, refl, sym, ap, _∙_, subst}
 use Prim.Native.Nat.{ℕ}
-use Rattle.model.specs.Result.{Result, ok, refused, andThen}
+use Rattle.model.specs.Result.{Result, ok, andThen}
 use Rattle.model.specs.Text.{Bytes}
 use Rattle.model.specs.Network.{Network as ModelNetwork}
 use Rattle.model.specs.Path.{Walk, path, stop, walk}

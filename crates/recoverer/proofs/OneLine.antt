@@ -30,7 +30,7 @@ use Rattle.clock_line.specs.Line.{clockCount}
 use Rattle.clock_line.proofs.Lines.{counted-clocks, uncounted}
 use Rattle.clock_follower.specs.Counts.{countsBy}
 use Rattle.clock_follower.proofs.Counts.{counts-followed}
-use Rattle.recoverer.specs.Answers.{progressAfter, clocksIn, textOfLine, CanPut}
+use Rattle.recoverer.specs.Answers.{progressAfter, lineClocks, textOfLine, CanPut}
 use Rattle.recoverer.specs.Parts.{PlayedLine}
 use Rattle.recoverer.proofs.Pins.{ones}
 
@@ -140,7 +140,7 @@ module _ (p : Progress) (l : Bytes) (plan : List ℕ) where
 
     module _ (fits : q .planBytes ≤ length plan) (at : ℕ) (place : at ≡ bytesWritten p) where
       text-is : done .0 .text ≡ textOfLine (p .state) l
-      text-is = let t = step-text p l (done .0) (done .1) in t .2 ∙ ap (λ (o : Option (List Clock)). addedText (stateAt (p .state)) (clocksIn o)) (sym (t .1))
+      text-is = let t = step-text p l (done .0) (done .1) in t .2 ∙ ap (λ (o : Option (List Clock)). addedText (stateAt (p .state)) (lineClocks o)) (sym (t .1))
 
       pub call-room : CanPut (p .state) at l plan
       call-room =

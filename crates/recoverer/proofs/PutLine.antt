@@ -17,7 +17,7 @@ use Rattle.plan_text.specs.Writing.{writeAt}
 use Rattle.clock_writer.specs.Machine.{isOne}
 use Rattle.clock_line.proofs.Lines.{HasClocks, has-clocks}
 use Rattle.clock_follower.specs.Stretches.{clocksFrom, AreBits, Wrote}
-use Rattle.recoverer.specs.Answers.{clocksIn, textOfLine, CanPut, PutsLine}
+use Rattle.recoverer.specs.Answers.{lineClocks, textOfLine, CanPut, PutsLine}
 use Rattle.recoverer.proofs.Pins.{ones, are-bits, clocks-from}
 
 -- ---- the rows of bits of a line with n clocks
@@ -39,10 +39,10 @@ module _ (l : Bytes) (n : ℕ) (h : HasClocks l n) (tms tdi : Bytes) (tms-is : t
   row-of-bits = rw tdi-row (are-bits tdiOf cs)
 
   pub rows-text : (state : ℕ) → addedText (stateAt state) (clocksFrom tms tdi) ≡ textOfLine state l
-  rows-text state = ap (addedText (stateAt state)) (rw (tms-row, tdi-row) (clocks-from cs) ∙ ap clocksIn (sym (h .good)))
+  rows-text state = ap (addedText (stateAt state)) (rw (tms-row, tdi-row) (clocks-from cs) ∙ ap lineClocks (sym (h .good)))
 
-  pub row-of-tms : map isOne tms ≡ map tmsOf (clocksIn (clkLine l))
-  row-of-tms = ap (map isOne) tms-row ∙ ones tmsOf cs ∙ ap (λ (o : Option (List Clock)). map tmsOf (clocksIn o)) (sym (h .good))
+  pub row-of-tms : map isOne tms ≡ map tmsOf (lineClocks (clkLine l))
+  row-of-tms = ap (map isOne) tms-row ∙ ones tmsOf cs ∙ ap (λ (o : Option (List Clock)). map tmsOf (lineClocks o)) (sym (h .good))
 
 -- ---- a line written
 

@@ -30,13 +30,13 @@ progressAfter r = andThen r (λ s. ok (s .after))
 
 -- ---- a line written
 
-abbrev pub clocksIn : Option (List Clock) → List Clock
-clocksIn none = []
-clocksIn (some clocks) = clocks
+abbrev pub lineClocks : Option (List Clock) → List Clock
+lineClocks none = []
+lineClocks (some clocks) = clocks
 
 -- what a line adds to the plan's text from a state on
 abbrev pub textOfLine : ℕ → Bytes → Bytes
-textOfLine state l = addedText (stateAt state) (clocksIn (clkLine l))
+textOfLine state l = addedText (stateAt state) (lineClocks (clkLine l))
 
 -- a line of good form, with room for what it adds from a place on
 pub record CanPut (state at : ℕ) (l plan : Bytes) : Type 0 where
@@ -47,6 +47,6 @@ pub record CanPut (state at : ℕ) (l plan : Bytes) : Type 0 where
 
 -- `put_line` went on from a state and a place: it returned a state and a place, and left the plan as plan′
 pub record PutsLine (state at : ℕ) (l plan : Bytes) (state′ at′ : ℕ) (plan′ : Bytes) : Type 0 where
-  pub leads : state′ ≡ stateNumber (stateAfter (stateAt state) (map (λ c. c .tms) (clocksIn (clkLine l))))
+  pub leads : state′ ≡ stateNumber (stateAfter (stateAt state) (map (λ c. c .tms) (lineClocks (clkLine l))))
   pub behind : at′ ≡ at + length (textOfLine state l)
   pub left : plan′ ≡ writeAt at (textOfLine state l) plan

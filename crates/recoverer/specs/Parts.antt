@@ -1,4 +1,4 @@
--- A text that comes in parts, in the model's terms.
+-- A line, the lines of a text and a text that comes in parts, in the model's terms: what the steps that follow a line once leave.
 -- Assumes nothing.
 use mathlib.Core.Path.{_≡_}
 use Prim.Native.Nat.{ℕ, _≤_, _<_}

@@ -1,12 +1,15 @@
 // One line, and the end of the text.
+use clock_follower::CAPTURE_DR;
 use clock_follower::Followed;
 use clock_follower::Pen;
 use clock_follower::Progress;
+use clock_follower::UPDATE_DR;
 use clock_follower::follow;
 use clock_follower::write;
 use clock_line::count_clocks;
 use clock_line::tdi_of;
 use clock_line::tms_of;
+use clock_writer::IDLE;
 use model::limits::MAX_OPERATIONS;
 use model::limits::MAX_PLAN_BYTES;
 use model::refusal;
@@ -16,12 +19,6 @@ ghost use Prim.Native.Nat.{_+_, _≤_};
 ghost use Rattle.recover_model.specs.RecoverCalls.{atFirst, underWay, canGoOn, bytesWritten, stepLine, recoverLine, recoverEnd};
 ghost use Rattle.clock_follower.specs.Counts.{progressFor};
 ghost use Rattle.recoverer.specs.Answers.{stepped, endAnswer, progressAfter, PutsLine, CanPut};
-
-const IDLE: u8 = 1;
-
-const CAPTURE_DR: u8 = 3;
-
-const UPDATE_DR: u8 = 8;
 
 const MAX_LINES: usize = 18446744073709551615;
 

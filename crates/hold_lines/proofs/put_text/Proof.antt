@@ -3,12 +3,12 @@
 use Prim.Native.Nat.{_-_, _≤_}
 use native.Mathlib.Omega.{arith}
 use borrow.Author.Needs.{needs}
-use Rattle.hold_lines.proofs.Text.{words-to, Written, written-none, line-fits, written-more, written-all}
+use Rattle.hold_lines.proofs.Text.{words-to, PutLines, written-none, line-fits, written-more, written-all}
 use Rattle.hold_lines.proofs.put_text.Statement.{statement}
 use Rattle.hold_lines.proofs.put_text.Tie as tie
 
 abbrev Inv-loop : tie.InvT-loop
-Inv-loop nodes bits known count out₀ at₀ s₀ out at s = (s ≤ count) × Written nodes bits known out₀ s at out
+Inv-loop nodes bits known count out₀ at₀ s₀ out at s = (s ≤ count) × PutLines nodes bits known out₀ s at out
 
 abbrev μ-loop : tie.MeasureT-loop
 μ-loop nodes bits known count out₀ at₀ s₀ out at s = count - s

@@ -2,7 +2,6 @@
 -- Assumes nothing.
 use Prim.Native.Nat.{_*_, _-_, _≤_}
 use native.Mathlib.Omega.{arith}
-use lib.ListN.{length}
 use borrow.Author.Needs.{needs}
 use Rattle.hold_lines.proofs.Text.{UpToBytes, bytes-none, bytes-more, bytes-all, words-to}
 use Rattle.hold_lines.proofs.text_length.Statement.{statement}

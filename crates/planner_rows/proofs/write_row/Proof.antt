@@ -5,7 +5,6 @@ use Rattle.planner_rows.proofs.RowWriting.{row-written}
 use borrow.Author.Needs.{needs}
 use Rattle.planner_rows.proofs.write_row.Statement.{statement}
 use Rattle.planner_rows.proofs.write_row.Tie as tie
-use Rattle.planner_rows.proofs.write_order.Reads as write-order-reads
 
 mul-at : tie.Need-mul-at
 mul-at c = search needs
