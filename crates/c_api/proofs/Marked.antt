@@ -10,11 +10,12 @@ use Rattle.model.specs.Text.{Bytes}
 use Rattle.model.specs.Network.{tabulate}
 use Rattle.model.specs.Mark.{Got, mark}
 use Rattle.model.proofs.Lists.{length-tabulate}
-use Rattle.marker.specs.declared.targets.Verdict.{Verdict}
-use Rattle.marker.specs.declared.targets.Verdict.the-variants.{Pass as Passed, Refused}
-use Rattle.marker.specs.declared.targets.Gots.{Gots}
-use Rattle.marker.specs.declared.targets.Mark.{Mark}
-use Rattle.marker.specs.Marks.{gotRow, gotsOf, verdictOf, ZerosBehind, RowsFor, MarkReturned}
+use Rattle.marker_targets.specs.declared.Verdict.{Verdict}
+use Rattle.marker_targets.specs.declared.Verdict.the-variants.{Pass as Passed, Refused}
+use Rattle.marker_targets.specs.declared.Gots.{Gots}
+use Rattle.marker_targets.specs.declared.Mark.{Mark}
+use Rattle.marker_targets.specs.Answers.{gotRow, gotsOf, verdictOf, ZerosBehind, RowsFor}
+use Rattle.marker.specs.Marks.{MarkReturned}
 use Rattle.c_api.specs.Numbers.{gotNumbers, padded, markNumbers}
 
 abbrev noRow : Got

@@ -11,7 +11,7 @@ use Rattle.model.specs.Refusals as refusal
 use Rattle.model.specs.Result.{Result, refused}
 use Rattle.model.specs.Text.{Bytes}
 use Rattle.recover_model.specs.RecoverCalls.{Progress, canGoOn, recoverLine, recoverEnd, stepLine}
-use Rattle.recoverer.proofs.GoingOn.{cannot}
+use Rattle.recover_line.proofs.GoingOn.{cannot}
 use Rattle.c_api.specs.Progress.{progressNumbers, stateIn, Alike}
 
 pub no-state : (n : ℕ) → 15 < n → 0 ≡ stateIn n

@@ -5,7 +5,7 @@ pub mod recovery;
 use clock_writer::Written;
 use clock_writer::write_clocks;
 use marker::mark;
-use marker::targets::Verdict;
+use marker_targets::Verdict;
 use network_reader::reader::Acceptance;
 use network_reader::reader::read_network;
 use planner::make_plan;

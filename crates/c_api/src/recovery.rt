@@ -1,10 +1,10 @@
 // Clocks back into a plan, under C names. A progress is four numbers: the lines so far, the controller's state by number, the entries
 // to Capture-DR and the plan's bytes; before the first line 0, 1, 0, 0.
 use clock_follower::Progress;
-use recoverer::line::Ended;
-use recoverer::line::Stepped;
-use recoverer::line::recover_end;
-use recoverer::line::recover_line;
+use recover_line::Ended;
+use recover_line::Stepped;
+use recover_line::recover_end;
+use recover_line::recover_line;
 use recoverer::whole::recover_text;
 ghost use mathlib.Core.Path.{_≡_};
 ghost use Rattle.recover_model.specs.RecoverCalls.{recoverText, recoverLine, recoverEnd};

@@ -17,11 +17,12 @@ use Rattle.carry_model.specs.Carry.{holdLines, configText, leftBy, carry, carry
 use Rattle.carry_model.proofs.Carried.{carried-as-marked}
 use Rattle.network_path.specs.Layout.{nodesOf}
 use Rattle.network_path.proofs.StoredLaws.{stored-short}
-use Rattle.marker.specs.declared.targets.Verdict.{Verdict}
-use Rattle.marker.specs.declared.targets.Verdict.the-variants.{Pass as Passed, Refused as Failed}
+use Rattle.marker_targets.specs.declared.Verdict.{Verdict}
+use Rattle.marker_targets.specs.declared.Verdict.the-variants.{Pass as Passed, Refused as Failed}
 use Rattle.marker.specs.declared.Marked.{Marked}
 use Rattle.marker.specs.Left.{Stands, LeftAfter}
-use Rattle.marker.specs.Marks.{gotsOf, verdictOf, MarkReturned}
+use Rattle.marker_targets.specs.Answers.{gotsOf, verdictOf}
+use Rattle.marker.specs.Marks.{MarkReturned}
 use Rattle.hold_lines.specs.Lines.{textAt, Configured, GivesText}
 use Rattle.hold_lines.specs.declared.Held.{Held}
 use Rattle.hold_lines.specs.declared.Held.the-variants.{Refused}

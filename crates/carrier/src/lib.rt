@@ -2,7 +2,7 @@
 use hold_lines::Held;
 use hold_lines::write_holds;
 use marker::mark_leaving;
-use marker::targets::Verdict;
+use marker_targets::Verdict;
 ghost use Rattle.carrier.specs.Call.{CarryReturned};
 
 // The lines at the front of a buffer: the mark's refusals, then 13 where the buffer has no room for them.

@@ -14,13 +14,13 @@ use Rattle.model.specs.Text.{Bytes, bytes, lineEnd}
 use Rattle.model.specs.Tap.{Tap, reset, idle, selectDR, captureDR, shiftDR, exit1DR, pauseDR, exit2DR, updateDR, selectIR, captureIR, shiftIR, exit1IR, pauseIR, exit2IR, updateIR, next, stateAt, stateNumber, stateAfter, action, bitByte}
 use Rattle.model.proofs.Lists.{drop-map}
 use Rattle.recover_model.specs.RecoverCalls.{atEntry, atClock, addedText}
-use Rattle.text.specs.Runs.{runLength}
-use Rattle.text.proofs.RunLaws.{run-bytes}
+use Rattle.text_runs.specs.Runs.{runLength, isZero}
+use Rattle.text_runs.proofs.RunLaws.{run-bytes}
 use Rattle.plan_text.specs.Writing.{writeAt}
 use Rattle.plan_text.proofs.Writing.{write-none, write-length, write-behind}
 use Rattle.clock_writer.specs.Machine.{isOne, nextNumber}
 use Rattle.clock_writer.proofs.Table.{number-at, numbered, run-end}
-use Rattle.clock_follower.specs.Stretches.{isZero, EndsStretch, clocksText, entryText, stretchText, clocksFrom, AreBits, Wrote}
+use Rattle.clock_follower.specs.Stretches.{EndsStretch, clocksText, entryText, stretchText, clocksFrom, AreBits, Wrote}
 use Rattle.clock_follower.proofs.Counts.{Staying, staying, IsStretch, stretch-rest}
 
 -- ---- one clock

@@ -1,7 +1,7 @@
 -- Clocks that leave the state as it is, taken at once, and what they add to the plan's text.
 -- Assumes nothing.
 use mathlib.Core.Path.{_≡_}
-use mathlib.Core.Bool.{Bool, cond}
+use mathlib.Core.Bool.{cond}
 use mathlib.Core.Option.{Option, some}
 use mathlib.Core.List.{List, [], _∷_, _++_, map}
 use Prim.Native.Nat.{ℕ, suc, _+_, _≤_, _<_}
@@ -13,10 +13,6 @@ use Rattle.recover_model.specs.RecoverCalls.{Progress, underWay, addedText}
 use Rattle.plan_text.specs.Writing.{writeAt}
 use Rattle.clock_writer.specs.Machine.{isOne, nextNumber, RunReturned}
 use Rattle.clock_follower.specs.Counts.{countsBy}
-
--- TMS 0 by its byte
-abbrev pub isZero : ℕ → Bool
-isZero b = eqb b 48
 
 -- from a place on up to an end: all clocks but the last leave the state
 pub record EndsStretch (state : ℕ) (tms : Bytes) (at end : ℕ) : Type 0 where

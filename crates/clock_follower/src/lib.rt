@@ -1,23 +1,23 @@
 // The controller followed over the clocks of a line: the counts that may refuse it, and the bytes that it adds to the plan's
 // text. Clocks that leave the state as it is are taken at once.
-mod zeros;
-
-use crate::zeros::zeros_end;
 use clock_writer::IDLE;
 use clock_writer::next_state;
 use model::limits::MAX_OPERATIONS;
 use model::limits::MAX_PLAN_BYTES;
 use plan_text::put;
+use text_runs::zeros::zeros_end;
 ghost use mathlib.Core.Path.{_≡_};
 ghost use mathlib.Core.Bool.{true, false, cond};
 ghost use mathlib.Core.List.{map};
 ghost use Prim.Native.Nat.{_+_, _≤_, _<_};
 ghost use lib.ListN.{length};
 ghost use lib.Dec.{eqb};
+ghost use Rattle.model.specs.Limits.{maxOperations, maxPlanBytes};
 ghost use Rattle.model.specs.Tap.{stateAt};
+ghost use Rattle.recover_model.specs.ClockText.{maxLineBytes};
 ghost use Rattle.recover_model.specs.RecoverCalls.{addedText};
-ghost use Rattle.clock_writer.specs.Machine.{isOne, nextNumber};
 ghost use Rattle.plan_text.specs.Writing.{writeAt};
+ghost use Rattle.clock_writer.specs.Machine.{isOne, nextNumber};
 ghost use Rattle.clock_follower.specs.Counts.{progressFor, movedOn, offending, unlessOffending, followedFor, countsBy, CountsNothing};
 ghost use Rattle.clock_follower.specs.Stretches.{EndsStretch, clocksText, entryText, stretchText, clocksFrom, AreBits, Wrote, StandsBefore, Played};
 
@@ -91,7 +91,7 @@ fn entered(next: u8) -> usize
 
 // After so many clocks in its state, the last of which leads to the next one.
 fn moved(p: Progress, count: usize, next: u8) -> Progress
-    requires { ⌜ (p .entries ≤ 16) × (p .bytes ≤ 64080) × (count ≤ 32768) ⌝ }
+    requires { ⌜ (p .entries ≤ maxOperations) × (p .bytes ≤ maxPlanBytes) × (count ≤ maxLineBytes) ⌝ }
     ensures { λ r. ⌜ progressFor r ≡ movedOn (progressFor p) count next ⌝ }
 {
     let bits = shifted(p.state, count);
@@ -129,7 +129,7 @@ fn is_counted(state: u8, next: u8) -> bool
 
 // After a stretch, or that it is refused. Most stretches only change the state.
 fn passed(p: Progress, count: usize, next: u8) -> Followed
-    requires { ⌜ (p .entries ≤ 16) × (p .bytes ≤ 64080) × (count ≤ 32768) ⌝ }
+    requires { ⌜ (p .entries ≤ maxOperations) × (p .bytes ≤ maxPlanBytes) × (count ≤ maxLineBytes) ⌝ }
     ensures { λ r. ⌜ followedFor r ≡ unlessOffending (movedOn (progressFor p) count next) ⌝ }
 {
     if !is_counted(p.state, next) {
@@ -149,7 +149,7 @@ fn passed(p: Progress, count: usize, next: u8) -> Followed
 
 // Over the clocks of these TMS bytes.
 pub fn follow(p: Progress, tms: &[u8]) -> Followed
-    requires { ⌜ (p .state < 16) × (p .entries ≤ 16) × (p .bytes ≤ 64080) × (length (now tms) ≤ 32768) ⌝ }
+    requires { ⌜ (p .state < 16) × (p .entries ≤ maxOperations) × (p .bytes ≤ maxPlanBytes) × (length (now tms) ≤ maxLineBytes) ⌝ }
     ensures { λ r. ⌜ followedFor r ≡ countsBy (progressFor p) (map isOne (now (tms .entry))) ⌝ }
 {
     let mut now = p;
@@ -227,8 +227,8 @@ pub fn write(pen: Pen, tms: &[u8], tdi: &[u8], plan: &mut [u8]) -> Pen
 // Both at once, into a buffer with room for every plan, which is free where the clocks are refused: each stretch is counted before
 // it is written, and what stands in the buffer is never more than what is counted.
 pub fn play(p: Progress, place: usize, tms: &[u8], tdi: &[u8], plan: &mut [u8]) -> Followed
-    requires { ⌜ (p .state < 16) × (p .entries ≤ 16) × (p .bytes ≤ 64080) × (length (now tms) ≤ 32768) ⌝ }
-    requires { ⌜ (length (now tdi) ≡ length (now tms)) × AreBits (now tdi) × StandsBefore place (p .state) (p .bytes) × (64080 ≤ length (now plan)) ⌝ }
+    requires { ⌜ (p .state < 16) × (p .entries ≤ maxOperations) × (p .bytes ≤ maxPlanBytes) × (length (now tms) ≤ maxLineBytes) ⌝ }
+    requires { ⌜ (length (now tdi) ≡ length (now tms)) × AreBits (now tdi) × StandsBefore place (p .state) (p .bytes) × (maxPlanBytes ≤ length (now plan)) ⌝ }
     ensures { λ r. ⌜ Played (progressFor p) place (now (tms .entry)) (now (tdi .entry)) (now (plan .entry)) (followedFor r) (now (plan .exit)) ⌝ }
 {
     let mut now = p;

@@ -17,10 +17,10 @@ use Rattle.model.proofs.Lists.{true-false}
 use Rattle.model.proofs.PlanTexts.{same-is}
 use Rattle.recover_model.specs.ClockText.{clkLine, maxLineBytes}
 use Rattle.recover_model.proofs.ClockLines.{tmsOf, tdiOf, clkText, length-clk, length-pins, pins-map, clk-written, clk-text}
+use Rattle.text_runs.specs.Runs.{inRun, runLength}
+use Rattle.text_runs.proofs.RunLaws.{run-within, run-bytes}
 use Rattle.plan_text.specs.Lines.{bitRun}
 use Rattle.plan_text.proofs.Bits.{run-is, run-front}
-use Rattle.text.specs.Runs.{inRun, runLength}
-use Rattle.text.proofs.RunLaws.{run-within, run-bytes}
 use Rattle.clock_line.specs.Line.{clockCount, FitsClocks}
 
 -- ---- a line of good form

@@ -1,7 +1,7 @@
 // One line of a text of clocks, without its byte 10: its form, and its TMS and TDI bits as parts of it.
 use recover_model::MAX_LINE_BYTES;
-use text::runs::all_in;
-use text::runs::far_end_of;
+use text_runs::all_in;
+use text_runs::far_end_of;
 ghost use mathlib.Core.Path.{_≡_};
 ghost use Prim.Native.Nat.{_+_, _≤_};
 ghost use lib.ListN.{length, take, drop};

@@ -12,13 +12,14 @@ use Rattle.model.specs.Network.{tabulate}
 use Rattle.model.specs.Mark.{Got}
 use Rattle.model.specs.Printed.{number, line, printed, gotLines, showPass, markProgram}
 use Rattle.model.proofs.Lists.{tabulate-snoc}
-use Rattle.marker.specs.declared.targets.Verdict.{Verdict}
-use Rattle.marker.specs.declared.targets.Verdict.the-variants.{Pass, Refused}
-use Rattle.marker.specs.declared.targets.Gots.{Gots}
-use Rattle.marker.specs.declared.targets.Mark.{Mark}
-use Rattle.marker.specs.Marks.{gotRow, gotsOf, verdictOf, RowsFor, MarkReturned}
 use Rattle.program_lines.specs.Puts.{Puts}
 use Rattle.program_lines.proofs.Parts.{puts-more}
+use Rattle.marker_targets.specs.declared.Verdict.{Verdict}
+use Rattle.marker_targets.specs.declared.Verdict.the-variants.{Pass, Refused}
+use Rattle.marker_targets.specs.declared.Gots.{Gots}
+use Rattle.marker_targets.specs.declared.Mark.{Mark}
+use Rattle.marker_targets.specs.Answers.{gotRow, gotsOf, verdictOf, RowsFor}
+use Rattle.marker.specs.Marks.{MarkReturned}
 
 -- ---- the rows of a mark
 

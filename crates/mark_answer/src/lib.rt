@@ -1,17 +1,17 @@
 // The mark program's lines.
 use marker::mark;
-use marker::targets::Gots;
-use marker::targets::Verdict;
+use marker_targets::Gots;
+use marker_targets::Verdict;
 use program_lines::put_line;
 use program_lines::put_refusal;
 ghost use mathlib.Core.List.{[], _∷_};
 ghost use Prim.Native.Nat.{_+_, _≤_};
 ghost use lib.ListN.{length};
-ghost use Rattle.io.specs.Counts.{Counts};
 ghost use Rattle.model.specs.Printed.{number, line, gotLines, markProgram};
-ghost use Rattle.marker.specs.Marks.{gotsOf};
 ghost use Rattle.program_lines.specs.Puts.{Puts};
+ghost use Rattle.marker_targets.specs.Answers.{gotsOf};
 ghost use Rattle.program_text.specs.Printing.{PrintedTo};
+ghost use Rattle.io.specs.Counts.{Counts};
 
 // Room for `pass` with two fields and four times `got` with three, each field a tab and at most 20 digits:
 // (4 + 2 * 21 + 1) + 4 * (3 + 3 * 21 + 1) = 315 bytes.

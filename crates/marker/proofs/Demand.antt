@@ -22,9 +22,9 @@ use Rattle.model.proofs.Demands.{refusals, marker, clocks as written, played}
 use Rattle.clock_writer.specs.declared.Written.{Written}
 use Rattle.clock_writer.specs.declared.Written.the-variants.{Clocks, Refused as NotWritten}
 use Rattle.clock_writer.specs.Clocks.{writtenAnswer}
-use Rattle.marker.specs.declared.targets.Verdict.{Verdict}
-use Rattle.marker.specs.declared.targets.Verdict.the-variants.{Pass as Passed, Refused}
-use Rattle.marker.specs.Marks.{gotsOf, verdictOf}
+use Rattle.marker_targets.specs.declared.Verdict.{Verdict}
+use Rattle.marker_targets.specs.declared.Verdict.the-variants.{Pass as Passed, Refused}
+use Rattle.marker_targets.specs.Answers.{gotsOf, verdictOf}
 use Rattle.marker.specs.Demand.{EndsListed, PassesExactly, PassBorneOut}
 
 pub ends-listed : EndsListed

@@ -11,19 +11,19 @@ use Rattle.model.specs.Mark.{Run, markPlan}
 use Rattle.model.proofs.Lists.{not-ok, ok-is}
 use Rattle.carry_model.specs.Carry.{leftBy}
 use Rattle.carry_model.proofs.LeftConfig.{left-last}
-use Rattle.plan_text.specs.Form.{formOf, planForm}
-use Rattle.plan_text.specs.declared.Form.{Form}
-use Rattle.plan_text.specs.declared.Form.the-variants.{Refused as Bad}
-use Rattle.plan_text.proofs.Forms.{form-refused}
 use Rattle.network_reader.specs.declared.reader.Network.{Network}
 use Rattle.network_reader.specs.declared.reader.Reading.{Reading}
 use Rattle.network_reader.specs.declared.reader.Acceptance.the-variants.{Accepted, Refused as Rejected}
 use Rattle.network_reader.specs.Reads.{recordedNetwork, IsReading}
 use Rattle.network_reader.proofs.Records.{reading-rejected, reading-recorded}
+use Rattle.plan_text.specs.Form.{formOf, planForm}
+use Rattle.plan_text.specs.declared.Form.{Form}
+use Rattle.plan_text.specs.declared.Form.the-variants.{Refused as Bad}
+use Rattle.plan_text.proofs.Forms.{form-refused}
 use Rattle.marker_operations.specs.declared.Ran.{Ran}
 use Rattle.marker_operations.specs.declared.Ran.the-variants.{Done, Refused}
 use Rattle.marker_operations.specs.Operations.{Marking, fromStart, Runs}
-use Rattle.marker.specs.declared.targets.Mark.{Mark}
+use Rattle.marker_targets.specs.declared.Mark.{Mark}
 use Rattle.marker.specs.declared.Marked.{Marked}
 use Rattle.marker.specs.Left.{Stands, Leaves, LeftAfter}
 use Rattle.marker.specs.Marks.{Markable}

@@ -1,6 +1,4 @@
 -- Laws of the marker: the targets after the operations, and the whole mark.
-pub mod Rows
-pub mod Judging
 pub mod Verdicts
 pub mod Leaving
 pub mod Demand

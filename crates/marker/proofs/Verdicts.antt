@@ -15,23 +15,24 @@ use Rattle.model.specs.Mark.{Pass, Run, targetsFrom, passed, byStart, markPlan,
 use Rattle.model.proofs.Lists.{zero-at}
 use Rattle.model.proofs.PlanTexts.{clocks-bytes}
 use Rattle.network_path.specs.Answers.{ConfigSized}
-use Rattle.plan_text.specs.Form.{formOf, planForm, HasForm}
-use Rattle.plan_text.specs.declared.Form.{Form}
-use Rattle.plan_text.specs.declared.Form.the-variants.{Good, Refused as Bad}
-use Rattle.plan_text.proofs.Forms.{GoodText, form-good, form-refused}
 use Rattle.network_reader.specs.declared.reader.Network.{Network}
 use Rattle.network_reader.specs.declared.reader.Reading.{Reading}
 use Rattle.network_reader.specs.declared.reader.Acceptance.{Acceptance}
 use Rattle.network_reader.specs.declared.reader.Acceptance.the-variants.{Accepted, Refused as Rejected}
 use Rattle.network_reader.specs.Reads.{recordedNetwork, IsReading}
+use Rattle.network_reader.proofs.Records.{Recorded, reading-rejected, reading-recorded, target-segment}
+use Rattle.plan_text.specs.Form.{formOf, planForm, HasForm}
+use Rattle.plan_text.specs.declared.Form.{Form}
+use Rattle.plan_text.specs.declared.Form.the-variants.{Good, Refused as Bad}
+use Rattle.plan_text.proofs.Forms.{GoodText, form-good, form-refused}
 use Rattle.marker_operations.specs.declared.Ran.{Ran}
 use Rattle.marker_operations.specs.declared.Ran.the-variants.{Done, Refused}
-use Rattle.marker.specs.declared.targets.Mark.{Mark}
-use Rattle.marker.specs.Marks.{markOf, refusedMark, RowsFor, Markable, planMark}
-use Rattle.marker.specs.Targets.{Judgeable, Judges}
 use Rattle.marker_operations.specs.Operations.{Reached, Marking, marking, configAt, RanAs, HoldsStart, Startable, fromStart, Runs}
-use Rattle.network_reader.proofs.Records.{Recorded, reading-rejected, reading-recorded, target-segment}
 use Rattle.marker_operations.proofs.Noting.{reached-none}
+use Rattle.marker_targets.specs.declared.Mark.{Mark}
+use Rattle.marker_targets.specs.Answers.{markOf, refusedMark, RowsFor}
+use Rattle.marker_targets.specs.Targets.{Judgeable, Judges}
+use Rattle.marker.specs.Marks.{Markable, planMark}
 
 -- ---- the texts
 

@@ -20,9 +20,10 @@ use Rattle.model.specs.Demands.{AcceptedAndValid}
 use Rattle.clock_writer.specs.declared.Written.{Written}
 use Rattle.clock_writer.specs.declared.Written.the-variants.{Clocks}
 use Rattle.clock_writer.specs.Clocks.{WroteClocks}
-use Rattle.marker.specs.declared.targets.Mark.{Mark}
-use Rattle.marker.specs.declared.targets.Verdict.the-variants.{Pass, Refused}
-use Rattle.marker.specs.Marks.{gotsOf, MarkReturned}
+use Rattle.marker_targets.specs.declared.Mark.{Mark}
+use Rattle.marker_targets.specs.declared.Verdict.the-variants.{Pass, Refused}
+use Rattle.marker_targets.specs.Answers.{gotsOf}
+use Rattle.marker.specs.Marks.{MarkReturned}
 
 -- ---- demand 1: "Whatever text or length comes in, each call ends with a result or one listed number and place."
 

@@ -14,7 +14,7 @@ use Rattle.network_path.specs.Answers.{ConfigSized}
 use Rattle.network_path.specs.Stored.{Stored}
 use Rattle.network_reader.specs.declared.reader.Network.{Network}
 use Rattle.network_reader.specs.Reads.{recordedNetwork}
-use Rattle.marker.specs.declared.targets.Mark.{Mark}
+use Rattle.marker_targets.specs.declared.Mark.{Mark}
 use Rattle.marker.specs.declared.Marked.{Marked}
 
 abbrev pub asRead : Mark → Network → Marked

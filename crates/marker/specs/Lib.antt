@@ -1,5 +1,4 @@
 -- What the marker's calls answer, in the model's terms.
 pub mod Marks
-pub mod Targets
 pub mod Left
 pub mod Demand

@@ -1,9 +1,9 @@
 // The marker: judges a plan text against a network text.
-use crate::targets::Mark;
-use crate::targets::judge;
-use crate::targets::refused;
 use marker_operations::Ran;
 use marker_operations::run_plan;
+use marker_targets::Mark;
+use marker_targets::judge;
+use marker_targets::refused;
 use model::refusal;
 use network_path::layout::Nodes;
 use network_path::layout::Words;
@@ -13,10 +13,9 @@ use network_reader::reader::read_network;
 use plan_text::Form;
 use plan_text::check_form;
 ghost use mathlib.Core.Path.{_≡_};
+ghost use Rattle.marker_targets.specs.Answers.{markOf, refusedMark, RowsFor};
 ghost use Rattle.marker.specs.Left.{Leaves, LeftAfter, asRead};
-ghost use Rattle.marker.specs.Marks.{markOf, refusedMark, RowsFor, MarkReturned, Markable, planMark};
-
-pub mod targets;
+ghost use Rattle.marker.specs.Marks.{MarkReturned, Markable, planMark};
 
 // The mark, and with a pass the configuration that the plan left: the nodes, their count, and two words for each segment.
 pub struct Marked {

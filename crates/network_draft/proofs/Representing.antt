@@ -33,6 +33,10 @@ agrees-refused D a r number place e f = subst (λ (x : Result Draft). Agrees D x
 pub agrees-ok : (D : Draft → Type 0) (a : Result Draft) (r : Refusal) (d : Draft) → a ≡ ok d → r ≡ Nothing → D d → Agrees D a r
 agrees-ok D a r d e f x = subst (λ (y : Result Draft). Agrees D y r) (sym e) (f, x)
 
+-- what agrees with one of two equal results agrees with the other
+pub agrees-same : (D : Draft → Type 0) (a b : Result Draft) (r : Refusal) → a ≡ b → Agrees D b r → Agrees D a r
+agrees-same D a b r e f = subst (λ (x : Result Draft). Agrees D x r) (sym e) f
+
 -- ---- one element more
 
 pub snoc-last : {A : Type 0} (l : List A) (x d : A) → getD (l ++ x ∷ []) (length l) d ≡ x

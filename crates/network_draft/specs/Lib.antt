@@ -1,5 +1,4 @@
--- What the arrays and counts of a draft mean, and what adding a line to it answers.
+-- What the arrays and counts of a draft mean.
 pub mod Store
 pub mod Numbers
 pub mod Represents
-pub mod Added

@@ -1,4 +1,3 @@
-// A network as far as it is read: its record, and one line more.
+// A network as far as it is read: its record, and what it is to add a line to it.
 pub mod add;
-pub mod bad;
 pub mod store;

@@ -1,6 +1,6 @@
 -- Laws of a node's numbers: what kind of node they are, and what is safe of it.
 -- Assumes nothing.
-use mathlib.Core.Path.{_≡_, refl, subst}
+use mathlib.Core.Path.{_≡_, refl, ap, _∙_, subst}
 use mathlib.Core.Bool.{Bool, true, false, cond}
 use mathlib.Core.Option.{none, some}
 use mathlib.Core.List.{List, [], _∷_}
@@ -9,11 +9,11 @@ use native.Mathlib.Nat.{suc-add, add-suc, add-zero, not-suc-le-zero, le-of-suc-l
 use native.Mathlib.Omega.{arith}
 use borrow.Author.Tests.{lt-ltb, le-ltb}
 use lib.Dec.{eqb, leb}
-use lib.ListN.{length, getElem?}
-use Rattle.model.specs.Network.{segment, multiplexer, tabulate}
-use Rattle.model.proofs.Lists.{length-tabulate}
+use lib.ListN.{length, getElem?, List·getD-eq-default}
+use Rattle.model.specs.Network.{segment, multiplexer, at, noNode, tabulate}
+use Rattle.model.proofs.Lists.{length-tabulate, getD-tabulate}
 use Rattle.network_words.specs.Words.{wordWidth}
-use Rattle.network_path.specs.Layout.{fieldAt, inputsAt, nodeAt, SafeNode}
+use Rattle.network_path.specs.Layout.{fieldAt, inputsAt, nodeAt, nodesOf, SafeNode}
 
 pub getElem-tabulate : {A : Type 0} (f : ℕ → A) (i n x : ℕ) → x < n → getElem? (tabulate f i n) x ≡ some (f (i + x))
 getElem-tabulate f i zero x h = absurd (not-suc-le-zero h)
@@ -44,3 +44,17 @@ module _ (ns : List ℕ) (k kind : ℕ) (is : kind ≡ fieldAt ns k 0) where
       let q = subst (SafeNode k) (mux-at h) s in
       let one = at-least-one (leb (length (inputsAt ns k)) 2) in
       (q .1, omega (arith, q .2), omega (arith, q .4, length-tabulate (λ i. fieldAt ns k (4 + i)) 0 (fieldAt ns k 0)))
+
+-- ---- a node by its number, among so many
+
+pub node-in : (ns : List ℕ) (count k : ℕ) → 1 ≤ k → k ≤ count → at (nodesOf ns count) k noNode ≡ nodeAt ns k
+node-in ns count zero lo hi = absurd (omega arith)
+node-in ns count (suc k) lo hi = getD-tabulate (nodeAt ns) 1 count k noNode (omega arith) ∙ ap (nodeAt ns) (let z : 1 + k ≡ suc k = omega arith in z)
+
+pub node-zero : (ns : List ℕ) (count k : ℕ) → k < 1 → at (nodesOf ns count) k noNode ≡ noNode
+node-zero ns count zero l = refl
+node-zero ns count (suc k) l = absurd (omega arith)
+
+pub node-beyond : (ns : List ℕ) (count k : ℕ) → count < k → at (nodesOf ns count) k noNode ≡ noNode
+node-beyond ns count zero l = absurd (omega arith)
+node-beyond ns count (suc k) l = List·getD-eq-default (nodesOf ns count) noNode (omega (arith, length-tabulate (nodeAt ns) 1 count))

@@ -25,7 +25,7 @@ use Rattle.network_reader.specs.declared.reader.Acceptance.{Acceptance}
 use Rattle.network_reader.specs.declared.reader.Acceptance.the-variants.{Accepted as Passed, Refused as Rejected}
 use Rattle.network_draft.specs.Represents.{targetAt}
 use Rattle.network_reader.specs.Reads.{recordedNetwork, readingBy, RecordComplete, RecordCompleteIf, IsReading}
-use Rattle.network_draft.proofs.BadAddresses.{node-zero, node-beyond}
+use Rattle.network_path.proofs.NodeLaws.{node-zero, node-beyond}
 use Rattle.network_draft.proofs.TargetLaws.{fits-segment, target-names}
 
 pub record Recorded (t : Bytes) (r : Network) : Type 0 where

@@ -11,7 +11,7 @@ use lib.Dec.{eqb, leb}
 use borrow.Author.Tests.{ne-eqb, eqb-true, eqb-false, leb-true, leb-false}
 use Rattle.model.specs.Text.{Bytes, lineEnd, bit}
 use Rattle.model.specs.Tap.{bitByte}
-use Rattle.text.specs.Runs.{inRun, runLength}
+use Rattle.text_runs.specs.Runs.{inRun, runLength}
 use Rattle.plan_text.specs.Lines.{orStop, bitRun}
 
 -- ---- one byte

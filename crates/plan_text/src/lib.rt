@@ -27,7 +27,7 @@ pub fn bits_end(s: &[u8], at: usize) -> usize
     requires { ⌜ at ≤ length (now s) ⌝ }
     ensures { λ r. ⌜ r ≡ at + length (bitRun (drop at (now (s .entry)))) ⌝ }
 {
-    text::runs::run_end(s, at, b'1')
+    text_runs::run_end(s, at, b'1')
 }
 
 // The line that starts at a place.

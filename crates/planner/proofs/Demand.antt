@@ -14,7 +14,7 @@ use Rattle.model.specs.Demands.{pastCheck12, WrittenPlan as ModelPlanned, Exact
 use Rattle.model.proofs.Lists.{not-ok, refusal-number, refusal-place}
 use Rattle.model.proofs.Demands.{plan-buffer, plan-buffer-after, search-space, refusals, planner, limits}
 use Rattle.marker.proofs.Demand.{verdict-pass}
-use Rattle.marker.specs.Marks.{gotsOf}
+use Rattle.marker_targets.specs.Answers.{gotsOf}
 use Rattle.planner_text.specs.declared.Planned.{Planned}
 use Rattle.planner_text.specs.declared.Planned.the-variants.{Written, Refused}
 use Rattle.planner_text.specs.Writing.{plannedAnswer}

@@ -17,8 +17,8 @@ use Rattle.model.specs.NetworkText.{readNetwork}
 use Rattle.model.specs.PlanText.{readPlan}
 use Rattle.model.specs.Places.{_or_, NetworkRefusal, PlannerRefusal}
 use Rattle.model.specs.Demands.{OnlyFirst, SearchCleared, pastCheck12}
-use Rattle.marker.specs.declared.targets.Mark.{Mark}
-use Rattle.marker.specs.declared.targets.Verdict.the-variants.{Pass}
+use Rattle.marker_targets.specs.declared.Mark.{Mark}
+use Rattle.marker_targets.specs.declared.Verdict.the-variants.{Pass}
 use Rattle.marker.specs.Marks.{MarkReturned}
 use Rattle.planner_text.specs.declared.Planned.{Planned}
 use Rattle.planner_text.specs.declared.Planned.the-variants.{Written, Refused}

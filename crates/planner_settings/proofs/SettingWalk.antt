@@ -20,7 +20,7 @@ use Rattle.network_path.proofs.ConfigLaws.{config-bit, at-tabulate, good-most}
 use Rattle.network_path.proofs.StoredLaws.{found-walk, stored-walkable}
 use Rattle.network_words.proofs.WordLaws.{zero-bit}
 use Rattle.network_draft.specs.Represents.{targetAt, targetsOf}
-use Rattle.network_draft.proofs.BadAddresses.{node-beyond}
+use Rattle.network_path.proofs.NodeLaws.{node-beyond}
 use Rattle.network_draft.proofs.TargetLaws.{fits-segment, target-names}
 use Rattle.planner_theory.specs.Settings.{Distinct, lookUp, walkAt}
 use Rattle.planner_theory.proofs.Steering.{distinct-bits, SteeringBit, steering-bit, bit-listed, getD-in}

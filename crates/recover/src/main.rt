@@ -13,9 +13,9 @@ use program_io::stream::close;
 use program_io::stream::open_operand;
 use program_io::stream::read_part;
 use recover_answer::print_recovery;
+use recover_line::Stepped;
+use recover_line::at_first;
 use recover_model::MAX_LINE_BYTES;
-use recoverer::line::Stepped;
-use recoverer::line::at_first;
 use recoverer::part::recover_part;
 ghost use Rattle.io.specs.Counts.{Counts};
 

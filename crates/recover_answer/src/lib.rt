@@ -2,21 +2,22 @@
 use clock_follower::Progress;
 use model::limits::MAX_PLAN_BYTES;
 use program_lines::put_refusal;
-use recoverer::line::Ended;
-use recoverer::line::Stepped;
-use recoverer::line::recover_end;
+use recover_line::Ended;
+use recover_line::Stepped;
+use recover_line::recover_end;
 ghost use Prim.Native.Nat.{_≤_};
 ghost use lib.ListN.{length};
+ghost use Rattle.model.specs.Limits.{maxPlanBytes};
 ghost use Rattle.io.specs.Counts.{Counts};
 ghost use Rattle.model.specs.Result.{ok};
 ghost use Rattle.clock_follower.specs.Counts.{progressFor};
 ghost use Rattle.program_text.specs.Printing.{PrintedTo};
 ghost use Rattle.recover_answer.specs.Recovery.{recoveryShown};
-ghost use Rattle.recoverer.specs.Answers.{stepped};
+ghost use Rattle.recover_line.specs.Answers.{stepped};
 
 // The same for a text that was not refused so far.
 fn print_end(p: Progress, rest: &[u8], plan: &mut [u8]) -> usize
-    requires { ⌜ 64080 ≤ length (now plan) ⌝ }
+    requires { ⌜ maxPlanBytes ≤ length (now plan) ⌝ }
     ensures { λ r. ⌜ PrintedTo (recoveryShown (ok (progressFor p)) (now (rest .entry)) (now (plan .entry))) (now (plan .entry)) r (now (plan .exit)) ⌝ }
     ensures { λ r. ⌜ Counts r (now (plan .exit)) ⌝ }
 {

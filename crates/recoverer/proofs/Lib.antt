@@ -1,9 +1,5 @@
 -- Laws of the calls; the other folders prove the functions.
-pub mod GoingOn
-pub mod Pins
-pub mod OneLine
-pub mod TextEnd
-pub mod PutLine
+pub mod PlayedLine
 pub mod PartLines
 pub mod PartRest
 pub mod OnePart

@@ -14,7 +14,7 @@ use Rattle.model.specs.Text.{Bytes}
 use Rattle.recover_model.specs.RecoverCalls.{Progress, stepLine}
 use Rattle.recover_model.specs.ClockText.{maxLineBytes}
 use Rattle.plan_text.proofs.Writing.{over-is, put-next, over-length}
-use Rattle.recoverer.specs.Answers.{progressAfter}
+use Rattle.recover_line.specs.Answers.{progressAfter}
 use Rattle.recoverer.specs.Parts.{withRest}
 
 pub rest-short : (r : Result Progress) (rest : Bytes) → length rest < maxLineBytes → r ≡ withRest r rest

@@ -1,6 +1,4 @@
-// Clocks back into a plan: the call for a line and the one for the end of the text, which a caller makes in turn, and the call for a
-// whole text.
-pub mod line;
+// Clocks back into a plan: the call for a whole text, and the step for a text that comes in parts.
 mod lines;
 pub mod part;
 pub mod whole;

@@ -1,8 +1,5 @@
 // The lines that end in a text, one behind the other, into a buffer with room for every plan. It is free after a refusal, so that a line
 // is followed once: counted and written at the same time.
-use crate::line::Stepped;
-use crate::line::bytes_written;
-use crate::line::can_go_on;
 use clock_follower::Followed;
 use clock_follower::Progress;
 use clock_follower::play;
@@ -10,18 +7,22 @@ use clock_line::find_line;
 use clock_line::tdi_of;
 use clock_line::tms_of;
 use model::refusal;
+use recover_line::Stepped;
+use recover_line::bytes_written;
+use recover_line::can_go_on;
 ghost use mathlib.Core.Path.{_≡_};
 ghost use Prim.Native.Nat.{_≤_};
 ghost use lib.ListN.{length};
+ghost use Rattle.model.specs.Limits.{maxPlanBytes};
 ghost use Rattle.recover_model.specs.ClockText.{clkLine};
 ghost use Rattle.clock_line.specs.Line.{clockCount};
 ghost use Rattle.clock_follower.specs.Counts.{progressFor};
-ghost use Rattle.recoverer.specs.Answers.{stepped};
+ghost use Rattle.recover_line.specs.Answers.{stepped};
 ghost use Rattle.recoverer.specs.Parts.{PlayedLine, DidLines};
 
 // A line with so many clocks, 0 for one that has not the form of a `clk` line.
 fn play_line(p: Progress, line: &[u8], clocks: usize, plan: &mut [u8]) -> Stepped
-    requires { ⌜ (clocks ≡ clockCount (clkLine (now line))) × (64080 ≤ length (now plan)) ⌝ }
+    requires { ⌜ (clocks ≡ clockCount (clkLine (now line))) × (maxPlanBytes ≤ length (now plan)) ⌝ }
     ensures { λ r. ⌜ PlayedLine (progressFor p) (now (line .entry)) (now (plan .entry)) (stepped r) (now (plan .exit)) ⌝ }
 {
     if !can_go_on(p) {
@@ -52,7 +53,7 @@ pub struct Lines {
 
 // The lines that have ended in turn, up to a refusal, behind which nothing is held.
 pub fn recover_lines(first: Progress, text: &[u8], plan: &mut [u8]) -> Lines
-    requires { ⌜ 64080 ≤ length (now plan) ⌝ }
+    requires { ⌜ maxPlanBytes ≤ length (now plan) ⌝ }
     ensures { λ r. ⌜ DidLines (progressFor first) (now (text .entry)) (now (plan .entry)) (stepped (r .answer)) (r .at) (now (plan .exit)) ⌝ }
 {
     let mut p = first;

@@ -1,13 +1,14 @@
 // A text that comes in parts: the lines that have ended are followed, the rest is kept at the front of the caller's buffer.
-use crate::line::Stepped;
-use crate::line::check_line;
 use crate::lines::recover_lines;
+use recover_line::Stepped;
+use recover_line::check_line;
 use recover_model::MAX_LINE_BYTES;
 ghost use mathlib.Core.Path.{_≡_};
 ghost use Prim.Native.Nat.{_-_, _≤_};
 ghost use lib.ListN.{length, drop};
+ghost use Rattle.model.specs.Limits.{maxPlanBytes};
 ghost use Rattle.model.specs.Calls.{writeOver};
-ghost use Rattle.recoverer.specs.Answers.{stepped};
+ghost use Rattle.recover_line.specs.Answers.{stepped};
 ghost use Rattle.recoverer.specs.Parts.{withRest, DidPart};
 
 // The answer so far, and how many bytes are held.
@@ -47,7 +48,7 @@ fn move_to_front(text: &mut [u8], at: usize) -> usize
 // The next part of a text, behind the bytes held so far: what is held of it then stands at the front. The plan buffer has room for
 // every plan, and is free after a refusal.
 pub fn recover_part(answer: Stepped, text: &mut [u8], plan: &mut [u8]) -> Recovery
-    requires { ⌜ 64080 ≤ length (now plan) ⌝ }
+    requires { ⌜ maxPlanBytes ≤ length (now plan) ⌝ }
     ensures { λ r. ⌜ DidPart (stepped answer) (now (text .entry)) (now (plan .entry)) (stepped (r .answer)) (r .held) (now (text .exit)) (now (plan .exit)) ⌝ }
 {
     match answer {

@@ -1,18 +1,18 @@
 // A whole text in memory: its lines are written into a buffer of ours, so that a refusal leaves the lent one as it was.
-use crate::line::Ended;
-use crate::line::Stepped;
-use crate::line::at_first;
-use crate::line::recover_end;
 use crate::lines::recover_lines;
 use model::limits::MAX_PLAN_BYTES;
 use model::refusal;
 use plan_text::put;
+use recover_line::Ended;
+use recover_line::Stepped;
+use recover_line::at_first;
+use recover_line::recover_end;
 ghost use mathlib.Core.Path.{_≡_};
 ghost use Prim.Native.Nat.{_≤_};
 ghost use lib.ListN.{length};
 ghost use Rattle.model.specs.Limits.{maxPlanBytes};
 ghost use Rattle.recover_model.specs.RecoverCalls.{recoverText};
-ghost use Rattle.recoverer.specs.Answers.{endAnswer};
+ghost use Rattle.recover_line.specs.Answers.{endAnswer};
 ghost use Rattle.recoverer.specs.Whole.{StandsIn};
 
 // The calls in turn, into a buffer with room for every plan: the plan's bytes.

@@ -4,4 +4,3 @@ pub mod Splitting
 pub mod Decimals
 pub mod Words
 pub mod Bits
-pub mod RunLaws

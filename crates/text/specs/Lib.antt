@@ -3,4 +3,3 @@ pub mod Places
 pub mod Numbers
 pub mod Words
 pub mod Bits
-pub mod Runs

@@ -1,6 +1,4 @@
 // The lowest layer of the texts: where a line ends, its fields, decimal fields, words and bits.
-pub mod runs;
-
 ghost use mathlib.Core.Path.{_≡_};
 ghost use mathlib.Core.List.{[]};
 ghost use Prim.Native.Nat.{_≤_, _<_};

@@ -5,8 +5,8 @@ use native.Mathlib.Omega.{arith}
 use lib.ListN.{length, drop, length-drop}
 use borrow.Author.Needs.{needs}
 use borrow.Author.Tests.{not-false}
-use Rattle.text.proofs.RunLaws.{run-within}
-use Rattle.clock_follower.specs.Stretches.{isZero}
+use Rattle.text_runs.specs.Runs.{isZero}
+use Rattle.text_runs.proofs.RunLaws.{run-within}
 use Rattle.clock_follower.proofs.Stretches.{zeros-end}
 use Rattle.clock_follower.proofs.stretch_end.Statement.{statement}
 use Rattle.clock_follower.proofs.stretch_end.Tie as tie

@@ -1,8 +1,8 @@
 -- `clock_follower::waits` meets its contract.
 -- Assumes nothing.
 use mathlib.Core.Logic.{⊎-elim}
-use Rattle.model.proofs.Lists.{true-false}
 use mathlib.Core.Path.{sym}
+use Rattle.model.proofs.Lists.{true-false}
 use Rattle.clock_follower.proofs.waits.Statement.{statement}
 use Rattle.clock_follower.proofs.waits.Tie as tie
 

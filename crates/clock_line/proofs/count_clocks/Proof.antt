@@ -5,8 +5,8 @@ use Prim.Native.Nat.{_≤_}
 use native.Mathlib.Omega.{arith}
 use borrow.Author.Tests.{not-true, not-false, leb-true}
 use borrow.Author.Needs.{needs}
-use Rattle.clock_line.proofs.Lines.{no-room, not-tested, passed, no-tms, no-tdi, counted}
 use Rattle.model.proofs.Lists.{true-false}
+use Rattle.clock_line.proofs.Lines.{no-room, not-tested, passed, no-tms, no-tdi, counted}
 use Rattle.clock_line.proofs.count_clocks.Statement.{statement}
 use Rattle.clock_line.proofs.count_clocks.Tie as tie
 

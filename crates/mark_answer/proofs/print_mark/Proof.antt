@@ -2,9 +2,9 @@
 -- Assumes nothing.
 use native.Mathlib.Omega.{arith}
 use borrow.Author.Needs.{needs}
-use Rattle.mark_answer.proofs.MarkShown.{mark-passed, mark-refused, few-rows}
 use Rattle.program_lines.proofs.Parts.{puts-more}
 use Rattle.program_text.proofs.Front.{at-front, printed-to}
+use Rattle.mark_answer.proofs.MarkShown.{mark-passed, mark-refused, few-rows}
 use Rattle.mark_answer.proofs.print_mark.Statement.{statement}
 use Rattle.mark_answer.proofs.print_mark.Tie as tie
 

@@ -7,10 +7,10 @@ use lib.ListN.{length}
 use borrow.Author.Needs.{needs}
 use Rattle.model.specs.Printed.{gotLines}
 use Rattle.model.specs.Network.{tabulate}
-use Rattle.marker.specs.Marks.{gotRow}
 use Rattle.program_lines.specs.Puts.{Puts}
-use Rattle.mark_answer.proofs.MarkShown.{got-next, gots-done}
 use Rattle.program_lines.proofs.Parts.{puts-none}
+use Rattle.marker_targets.specs.Answers.{gotRow}
+use Rattle.mark_answer.proofs.MarkShown.{got-next, gots-done}
 use Rattle.mark_answer.proofs.put_gots.Statement.{statement}
 use Rattle.mark_answer.proofs.put_gots.Tie as tie
 

@@ -1,11 +1,11 @@
 -- `marker::mark_leaving` meets its contract.
 -- Assumes nothing.
 use mathlib.Core.Path.{ap, _∙_}
+use borrow.Author.Needs.{needs}
+use Rattle.marker_targets.specs.Answers.{markOf}
 use Rattle.marker.specs.declared.Marked.{Marked}
-use Rattle.marker.specs.Marks.{markOf}
 use Rattle.marker.proofs.Leaving.{left-rejected, left-bad, left-accepted}
 use Rattle.marker.proofs.Verdicts.{rows-refused, network-refused, network-accepted, plan-refused, markable}
-use borrow.Author.Needs.{needs}
 use Rattle.marker.proofs.mark_leaving.Statement.{statement}
 use Rattle.marker.proofs.mark_leaving.Tie as tie
 

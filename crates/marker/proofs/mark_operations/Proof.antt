@@ -1,10 +1,10 @@
 -- `marker::mark_operations` meets its contract.
 -- Assumes nothing.
 use mathlib.Core.Path.{ap, _∙_}
-use Rattle.marker.specs.Marks.{markOf}
+use borrow.Author.Needs.{needs}
+use Rattle.marker_targets.specs.Answers.{markOf}
 use Rattle.marker.proofs.Leaving.{leaves-refused, leaves-done}
 use Rattle.marker.proofs.Verdicts.{rows-refused, runnable, run-refused, judgeable, judged}
-use borrow.Author.Needs.{needs}
 use Rattle.marker.proofs.mark_operations.Statement.{statement}
 use Rattle.marker.proofs.mark_operations.Tie as tie
 

@@ -2,7 +2,7 @@
 -- Assumes nothing.
 use mathlib.Core.Path.{ap}
 use borrow.Author.Needs.{needs}
-use Rattle.marker.specs.declared.targets.Mark.{Mark}
+use Rattle.marker_targets.specs.declared.Mark.{Mark}
 use Rattle.marker.specs.Left.{asRead}
 use Rattle.marker.proofs.unmarked.Statement.{statement}
 use Rattle.marker.proofs.unmarked.Tie as tie

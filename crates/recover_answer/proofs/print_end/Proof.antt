@@ -5,7 +5,7 @@ use native.Mathlib.Omega.{arith}
 use borrow.Author.Needs.{needs}
 use Rattle.recover_answer.proofs.RecoveryShown.{shown-end-refused, shown-plan, plan-fits, stands}
 use Rattle.program_text.proofs.Front.{at-front, printed-to}
-use Rattle.recoverer.specs.Answers.{endAnswer}
+use Rattle.recover_line.specs.Answers.{endAnswer}
 use Rattle.clock_follower.specs.Counts.{progressFor}
 use Rattle.recover_answer.proofs.print_end.Statement.{statement}
 use Rattle.recover_answer.proofs.print_end.Tie as tie

@@ -5,7 +5,7 @@ use borrow.Author.Needs.{needs}
 use Rattle.model.specs.Result.{Result}
 use Rattle.recover_model.specs.RecoverCalls.{Progress}
 use Rattle.program_text.proofs.Front.{at-front, printed-to}
-use Rattle.recoverer.specs.Answers.{stepped}
+use Rattle.recover_line.specs.Answers.{stepped}
 use Rattle.recover_answer.specs.Recovery.{recoveryShown}
 use Rattle.recover_answer.proofs.RecoveryShown.{shown-refused, shown-as}
 use Rattle.recover_answer.proofs.print_recovery.Statement.{statement}

@@ -2,7 +2,7 @@
 -- Assumes nothing.
 use borrow.Author.Needs.{needs}
 use Rattle.c_api.proofs.Counted.{by-answer}
-use Rattle.recoverer.specs.Answers.{endAnswer}
+use Rattle.recover_line.specs.Answers.{endAnswer}
 use Rattle.c_api.proofs.recovery.penthluk_recover.Statement.{statement}
 use Rattle.c_api.proofs.recovery.penthluk_recover.Tie as tie
 

@@ -3,7 +3,7 @@
 use mathlib.Core.Path.{_∙_}
 use borrow.Author.Needs.{needs}
 use Rattle.c_api.proofs.Counted.{by-answer}
-use Rattle.recoverer.specs.Answers.{endAnswer}
+use Rattle.recover_line.specs.Answers.{endAnswer}
 use Rattle.c_api.proofs.recovery.penthluk_recover_end.Statement.{statement}
 use Rattle.c_api.proofs.recovery.penthluk_recover_end.Tie as tie
 

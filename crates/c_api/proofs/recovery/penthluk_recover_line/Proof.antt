@@ -3,7 +3,7 @@
 use mathlib.Core.Path.{ap, _∙_}
 use borrow.Author.Needs.{needs}
 use Rattle.recover_model.specs.RecoverCalls.{LineAnswer}
-use Rattle.recoverer.specs.Answers.{stepped}
+use Rattle.recover_line.specs.Answers.{stepped}
 use Rattle.c_api.proofs.Progressed.{by-progress}
 use Rattle.c_api.proofs.recovery.penthluk_recover_line.Statement.{statement}
 use Rattle.c_api.proofs.recovery.penthluk_recover_line.Tie as tie

@@ -1,8 +1,7 @@
 -- `network_reader::reader::add_line` meets its contract: by the kind of line n, what is added agrees with what the model adds.
 -- Assumes nothing.
 use Rattle.network_reader.proofs.ReadingLines.{line-is, entry-good}
-use Rattle.network_draft.proofs.AddingTargets.{agrees-same}
-use Rattle.network_draft.proofs.Representing.{agrees-refused, represented-formed, represented-words}
+use Rattle.network_draft.proofs.Representing.{agrees-same, agrees-refused, represented-formed, represented-words}
 use Rattle.model.specs.NetworkText.{addLine}
 use mathlib.Core.Path.{ap}
 use borrow.Author.Needs.{needs}

@@ -5,9 +5,9 @@ use Prim.Native.Nat.{_-_}
 use native.Mathlib.Omega.{arith}
 use lib.ListN.{length}
 use borrow.Author.Needs.{needs}
-use Rattle.recoverer.proofs.PartLines.{Doing, doing-start, done-at-end, done-unended, done-refused, doing-next}
-use Rattle.recoverer.specs.Answers.{stepped}
 use Rattle.clock_follower.specs.Counts.{progressFor}
+use Rattle.recover_line.specs.Answers.{stepped}
+use Rattle.recoverer.proofs.PartLines.{Doing, doing-start, done-at-end, done-unended, done-refused, doing-next}
 use Rattle.recoverer.proofs.lines.recover_lines.Statement.{statement}
 use Rattle.recoverer.proofs.lines.recover_lines.Tie as tie
 

@@ -5,9 +5,9 @@ use Prim.Native.Nat.{_-_, _≤_}
 use native.Mathlib.Omega.{arith}
 use lib.ListN.{take, drop}
 use borrow.Author.Needs.{needs}
-use Rattle.recoverer.proofs.PartRest.{moved-length, moved-next, moved-all}
-use Rattle.plan_text.proofs.Writing.{over-none}
 use Rattle.model.specs.Calls.{writeOver}
+use Rattle.plan_text.proofs.Writing.{over-none}
+use Rattle.recoverer.proofs.PartRest.{moved-length, moved-next, moved-all}
 use Rattle.recoverer.proofs.part.move_to_front.Statement.{statement}
 use Rattle.recoverer.proofs.part.move_to_front.Tie as tie
 

@@ -2,9 +2,9 @@
 -- Assumes nothing.
 use mathlib.Core.Path.{ap}
 use borrow.Author.Needs.{needs}
-use Rattle.recoverer.proofs.OnePart.{part-refused, from-answer, part-stopped, part-held}
-use Rattle.recoverer.specs.Answers.{stepped}
 use Rattle.clock_follower.specs.Counts.{progressFor}
+use Rattle.recover_line.specs.Answers.{stepped}
+use Rattle.recoverer.proofs.OnePart.{part-refused, from-answer, part-stopped, part-held}
 use Rattle.recoverer.proofs.part.recover_part.Statement.{statement}
 use Rattle.recoverer.proofs.part.recover_part.Tie as tie
 

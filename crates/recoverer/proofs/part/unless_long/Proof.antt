@@ -5,8 +5,8 @@ use borrow.Author.Needs.{needs}
 use Rattle.model.specs.Result.{Result}
 use Rattle.recover_model.specs.RecoverCalls.{Progress}
 use Rattle.clock_follower.specs.Counts.{progressFor}
+use Rattle.recover_line.specs.Answers.{stepped}
 use Rattle.recoverer.specs.Parts.{withRest}
-use Rattle.recoverer.specs.Answers.{stepped}
 use Rattle.recoverer.proofs.PartRest.{rest-short, rest-long}
 use Rattle.recoverer.proofs.part.unless_long.Statement.{statement}
 use Rattle.recoverer.proofs.part.unless_long.Tie as tie

@@ -3,8 +3,8 @@
 use mathlib.Core.Path.{ap}
 use native.Mathlib.Omega.{arith}
 use borrow.Author.Needs.{needs}
+use Rattle.recover_line.specs.Answers.{stepped}
 use Rattle.recoverer.proofs.WholeCall.{stands-end, stands-refused}
-use Rattle.recoverer.specs.Answers.{stepped}
 use Rattle.recoverer.proofs.whole.recover_in_turn.Statement.{statement}
 use Rattle.recoverer.proofs.whole.recover_in_turn.Tie as tie
 

@@ -4,8 +4,8 @@ use mathlib.Core.Path.{ap, sym}
 use native.Mathlib.Omega.{arith}
 use lib.Seq.{length-take-le}
 use borrow.Author.Needs.{needs}
+use Rattle.recover_line.specs.Answers.{endAnswer}
 use Rattle.recoverer.proofs.WholeCall.{whole-refused, whole-short, whole-written}
-use Rattle.recoverer.specs.Answers.{endAnswer}
 use Rattle.recoverer.proofs.whole.recover_text.Statement.{statement}
 use Rattle.recoverer.proofs.whole.recover_text.Tie as tie
 

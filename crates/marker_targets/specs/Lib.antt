@@ -1,0 +1,3 @@
+-- What the contracts of this crate cite.
+pub mod Answers
+pub mod Targets

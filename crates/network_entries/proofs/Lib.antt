@@ -1,0 +1,3 @@
+-- Laws of `hold`, `write` and `read` lines.
+pub mod AddingHolds
+pub mod AddingTargets

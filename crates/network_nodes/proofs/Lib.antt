@@ -1,0 +1,4 @@
+-- Laws of node lines and the `out` line.
+pub mod AddingNodes
+pub mod BadAddresses
+pub mod AddingOut

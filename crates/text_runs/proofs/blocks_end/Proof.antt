@@ -1,0 +1,56 @@
+-- `text_runs::blocks_end` meets its contract. The loop's invariant: the run from i on ends where that from `at` on ends.
+-- Assumes nothing.
+use mathlib.Core.Path.{_≡_, refl}
+use Prim.Native.Nat.{_+_, _-_, _≤_}
+use lib.ListN.{length, drop}
+use borrow.Author.Needs.{needs}
+use borrow.Author.Tests.{not-false}
+use Rattle.text_runs.specs.Runs.{inRun, runLength}
+use Rattle.text_runs.proofs.RunLaws.{run-block}
+use Rattle.text_runs.proofs.blocks_end.Statement.{statement}
+use Rattle.text_runs.proofs.blocks_end.Tie as tie
+
+abbrev Inv-loop : tie.InvT-loop
+Inv-loop s at last i₀ i = (i ≤ length s) × (i + runLength (inRun last) (drop i s) ≡ at + runLength (inRun last) (drop at s))
+
+abbrev μ-loop : tie.MeasureT-loop
+μ-loop s at last i₀ i = length s - i
+
+loop-holds : tie.Need-loop-holds Inv-loop μ-loop
+loop-holds c = (search needs, refl)
+
+sub-loop : tie.Need-sub-loop Inv-loop μ-loop
+sub-loop c = search needs
+
+each-in-requires : tie.Need-each-in-requires Inv-loop μ-loop
+each-in-requires c κs = search needs
+
+returns : tie.Need-returns Inv-loop μ-loop
+returns c = c .before .before .before .loop .inv .1
+
+add-i : tie.Need-add-i Inv-loop μ-loop
+add-i c = search needs
+
+loop-less : tie.Need-loop-less Inv-loop μ-loop
+loop-less c = search needs
+
+loop-again : tie.Need-loop-again Inv-loop μ-loop
+loop-again c = (search needs, run-block _ _ _ 32 _ (c .before .before .before .loop .inv .1) _ (c .before .each-in .ensures) (not-false _ (c .if1 .left)))
+
+returns-2 : tie.Need-returns-2 Inv-loop μ-loop
+returns-2 c = c .before .loop .inv .1
+
+pub blocks-end-spec : {M : Type 1} → statement M
+blocks-end-spec =
+    tie.close
+    (tie.spec
+    Inv-loop
+    μ-loop
+    loop-holds
+    sub-loop
+    each-in-requires
+    returns
+    add-i
+    loop-less
+    loop-again
+    returns-2)
