@@ -14,7 +14,7 @@ use borrow.Author.Tests.{eqb-true, eqb-false, ne-eqb}
 use Rattle.model.specs.Text.{Bytes, bind, bit, trit, bitsFrom, bitsField}
 use Rattle.model.specs.NetworkText.{isSome}
 use Rattle.model.proofs.LineForms.{bound}
-use Rattle.model.proofs.Lists.{true-false, none-some, some-same}
+use Rattle.model.proofs.Lists.{true-false, none-some, some-same, and-false-right, and-true-right}
 use Rattle.text.specs.Bits.{isBit, allBits, bitsForm}
 
 -- ---- what a test of form says
@@ -52,14 +52,21 @@ unfoldable pub every : (ℕ → Bool) → Bytes → Bool
 every p [] = true
 every p (b ∷ s) = p b && every p s
 
-module _ (p : ℕ → Bool) (s : Bytes) (i : ℕ) (r : Bool) (whole : every p (drop i s) ≡ r) where
-  pub every-end : length s ≤ i → true ≡ r
+-- those before place i, and those from there on
+module _ (p : ℕ → Bool) (s : Bytes) (i : ℕ) (before r : Bool) (whole : (before && every p (drop i s)) ≡ r) where
+  pub every-end : length s ≤ i → before ≡ r
   unfolding every
-  every-end h = sym (rw (drop-of-length-le s h)) ∙ whole
+  every-end h = sym (and-true-right before) ∙ sym (rw (drop-of-length-le s h)) ∙ whole
 
-  pub every-next : (t : Bool) → i < length s → p (getD s i 0) ≡ t → (t && every p (drop (i + 1) s)) ≡ r
+  next : (t : Bool) → i < length s → p (getD s i 0) ≡ t → (before && (t && every p (drop (i + 1) s))) ≡ r
   unfolding every
-  every-next t h e = sym (rw (add-one, drop-cons s i 0 h, every, e)) ∙ whole
+  next t h e = sym (rw (add-one, drop-cons s i 0 h, every, e)) ∙ whole
+
+  pub every-on : i < length s → p (getD s i 0) ≡ true → (before && every p (drop (i + 1) s)) ≡ r
+  every-on h e = next true h e
+
+  pub every-stop : i < length s → p (getD s i 0) ≡ false → false ≡ r
+  every-stop h e = sym (and-false-right before) ∙ next false h e
 
 bits-every : {A : Type 0} (read : ℕ → Option A) (above : List A) (s : Bytes) → isSome (bitsFrom read above s) ≡ every (λ b. isSome (read b)) s
 unfolding bitsFrom every

@@ -193,18 +193,19 @@ fn is_bit(b: u8, unknown: bool) -> bool
     }
 }
 
-// Whether all bytes are bits, none included.
+// Whether all bytes are bits, none included. The loop has no early exit, so that the compiler can compare many bytes at once.
 pub fn all_bits(s: &[u8], unknown: bool) -> bool
     ensures { λ r. ⌜ r ≡ allBits unknown (now (s .entry)) ⌝ }
 {
+    let mut all = true;
     let mut i: usize = 0;
     while i < s.len() {
         if !is_bit(s[i], unknown) {
-            return false;
+            all = false;
         }
         i += 1;
     }
-    true
+    all
 }
 
 // Whether a BITS or RESET field has good form: at least one bit and nothing else.
