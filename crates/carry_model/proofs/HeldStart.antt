@@ -13,7 +13,7 @@ use lib.Seq.{ext-getD}
 use borrow.Author.Tests.{eq-eqb, ne-eqb}
 use Rattle.model.specs.Accepted.{GoodNode, Accepted}
 use Rattle.model.specs.Drafted.{ResetsFit}
-use Rattle.model.specs.Limits.{maxNodes}
+use Rattle.model.specs.Limits.{maxNodes, maxLen}
 use Rattle.model.specs.Network.{segment, multiplexer, Node, Config, Network, at, noNode, isSegment, lenOf, mapFrom, Held, heldOr, silentBits, startOf}
 use Rattle.model.specs.NetworkText.{Line, hold, lineOf, Draft, hasOut, fitsBits, isHeld, withHold, addHold, addLine}
 use Rattle.model.specs.Result.{Result, ok, andThen}
@@ -83,7 +83,7 @@ rows-added c (x ∷ ns) i n d o f below = go (isSegment x) refl
         let r : FitRow (d .nodes) c i = subst (FitRow (d .nodes) c) (add-zero i) (f 0 (omega arith) q) in
         let s = rest (suc n) (withHold d i (at c i [])) o refl (below-more i (at c i []) (d .holds) below) in (
           s .0,
-          ap (λ (y : Option Line). andThen (addLine d n y) (λ e. addAll e (suc n) (map heldLine (heldRows c (suc i) ns)))) (held-read h (r .small) (r .least))
+          ap (λ (y : Option Line). andThen (addLine maxLen d n y) (λ e. addAll e (suc n) (map heldLine (heldRows c (suc i) ns)))) (held-read h (r .small) (r .least))
               ∙ ap (λ (y : Result Draft). andThen y (λ e. addAll e (suc n) (map heldLine (heldRows c (suc i) ns)))) (add-row d n h o (r .fits) (below-free i i (d .holds) below (omega arith)))
               ∙ s .1 ∙ ap (λ (hs : List Held). ok (s .0, withHolds d hs)) (append-assoc (d .holds) (h ∷ []) (heldRows c (suc i) ns)),
         )

@@ -8,6 +8,7 @@ use Prim.Native.Nat.{ℕ, suc, _+_}
 use lib.ListN.{length}
 use lib.Dec.{leb, ltb}
 use borrow.Author.Tests.{not-false}
+use Rattle.model.specs.Limits.{maxLen}
 use Rattle.model.specs.Network.{Node, Target, totalBits, lenOf, isSteering, Held}
 use Rattle.model.specs.NetworkText.{Reset, badReset, Line, node, out, hold, target, lineOf, Draft, isSome, hasOut, outside, addNode, firstBad, outIf, addOut, addHold, targetSegment, fitsTarget, isTarget, addTarget, addLine, noLines}
 use Rattle.model.specs.Result.{Result, ok, andThen}
@@ -33,14 +34,14 @@ bare d = withTargets (withHolds d []) []
 
 -- line l is added to d, and the lines behind it give r
 record Adds (r : ℕ × Draft) (n : ℕ) (d : Draft) (l : Bytes) (y : Draft) : Type 0 where
-  adds : addLine d n (lineOf l) ≡ ok y
+  adds : addLine maxLen d n (lineOf l) ≡ ok y
   rest : List Bytes
   then : addAll y (suc n) rest ≡ ok r
 
 module _ (f : Bytes → Bool) (r : ℕ × Draft) (R : ℕ → Draft → ℕ → Draft → Type 0) where
   -- a line that f keeps is added to the other draft as well
   abbrev Follows : Type 0
-  Follows = (l : Bytes) (n m : ℕ) (d y e : Draft) → f l ≡ true → R n d m e → Adds r n d l y → (e′ : Draft) × (addLine e m (lineOf l) ≡ ok e′) × R (suc n) y (suc m) e′
+  Follows = (l : Bytes) (n m : ℕ) (d y e : Draft) → f l ≡ true → R n d m e → Adds r n d l y → (e′ : Draft) × (addLine maxLen e m (lineOf l) ≡ ok e′) × R (suc n) y (suc m) e′
 
   abbrev Stays : Type 0
   Stays = (l : Bytes) (n m : ℕ) (d y e : Draft) → f l ≡ false → R n d m e → Adds r n d l y → R (suc n) y m e
@@ -52,7 +53,7 @@ module _ (f : Bytes → Bool) (r : ℕ × Draft) (R : ℕ → Draft → ℕ → 
   unfolding addAll linesWhere
   read-beside follows stays [] n m d e x g = ((m, e), refl, subst (λ (p : ℕ × Draft). R (p .0) (p .1) m e) (ok-is g) x)
   read-beside follows stays (l ∷ ls) n m d e x g =
-      let h = handed (addLine d n (lineOf l)) _ r g in
+      let h = handed (addLine maxLen d n (lineOf l)) _ r g in
       go (f l) refl (h .value) record { adds = h .given; rest = ls; then = h .then } (λ m′ e′ x′. read-beside follows stays ls (suc n) m′ (h .value) e′ x′ (h .then))
     where
       go : (t : Bool) → f l ≡ t → (y : Draft) → Adds r n d l y → ((m′ : ℕ) (e′ : Draft) → R (suc n) y m′ e′ → Beside m′ e′ (linesWhere f ls))
@@ -79,10 +80,10 @@ nodes-final : (ls : List Bytes) (d : Draft) (n : ℕ) (r : ℕ × Draft) → add
 unfolding addAll addNode addOut
 nodes-final [] d n r e o = ap (λ (x : ℕ × Draft). x .1 .nodes) (ok-is e)
 nodes-final (l ∷ ls) d n r e o =
-    let h = handed (addLine d n (lineOf l)) _ r e in
+    let h = handed (addLine maxLen d n (lineOf l)) _ r e in
     go (lineOf l) (h .value) (h .given) (λ q. nodes-final ls (h .value) (suc n) r (h .then) q)
   where
-    go : (o : Option Line) (y : Draft) → addLine d n o ≡ ok y → (hasOut y ≡ true → y .nodes ≡ r .1 .nodes) → d .nodes ≡ r .1 .nodes
+    go : (o : Option Line) (y : Draft) → addLine maxLen d n o ≡ ok y → (hasOut y ≡ true → y .nodes ≡ r .1 .nodes) → d .nodes ≡ r .1 .nodes
     go none y g rest = absurd (not-ok g)
     go (some (node x v)) y g rest = absurd (true-false (sym o ∙ passed-test (hasOut d) 4 n _ y g .0))
     go (some (out k)) y g rest = absurd (true-false (sym o ∙ passed-test (hasOut d) 4 n _ y g .0))
@@ -98,11 +99,11 @@ fed o e f = true-false (sym e ∙ ap isSome f)
 
 -- ---- nodes and `out`
 
-bare-node : (d y : Draft) (n m : ℕ) (x : Node) (v : Reset) → (d .feeds ≡ none → m ≡ n) → addNode d n x v ≡ ok y → addNode (bare d) m x v ≡ ok (bare y)
+bare-node : (d y : Draft) (n m : ℕ) (x : Node) (v : Reset) → (d .feeds ≡ none → m ≡ n) → addNode maxLen d n x v ≡ ok y → addNode maxLen (bare d) m x v ≡ ok (bare y)
 unfolding addNode
 bare-node d y n m x v same g =
     let a = passed-test (hasOut d) 4 n _ y g in
-    let b = passed-test (outside n x) 2 n _ y (a .1) in
+    let b = passed-test (outside maxLen n x) 2 n _ y (a .1) in
     let w = passed-test (badReset x v) 18 n _ y (b .1) in
     let c = passed-test (leb 128 (length (d .nodes))) 3 n _ y (w .1) in
     let f = passed-test (ltb 4000 (totalBits (d .nodes) + lenOf x)) 3 n _ y (c .1) in
@@ -129,13 +130,13 @@ module _ (r : ℕ × Draft) where
   wiring-follows l n m d y e w x a = go (lineOf l) refl (a .adds)
     where
       Next : Option Line → Type 0
-      Next o = (e′ : Draft) × (addLine e m o ≡ ok e′) × Wired (suc n) y (suc m) e′
+      Next o = (e′ : Draft) × (addLine maxLen e m o ≡ ok e′) × Wired (suc n) y (suc m) e′
 
-      go : (o : Option Line) → lineOf l ≡ o → addLine d n o ≡ ok y → Next o
+      go : (o : Option Line) → lineOf l ≡ o → addLine maxLen d n o ≡ ok y → Next o
       go none q g = absurd (not-ok g)
       go (some (node z v)) q g = (
         bare y,
-        ap (λ (c : Draft). addNode c m z v) (x .0) ∙ bare-node d y n m z v (x .1) g,
+        ap (λ (c : Draft). addNode maxLen c m z v) (x .0) ∙ bare-node d y n m z v (x .1) g,
         (refl, λ f. ap suc (x .1 (ap (λ (c : Draft). c .feeds) (added d y n (some (node z v)) g) ∙ f))),
       )
       go (some (out k)) q g = (
@@ -149,12 +150,12 @@ module _ (r : ℕ × Draft) where
   wiring-stays : Stays isWiring r Wired
   wiring-stays l n m d y e w x a = go (lineOf l) refl (a .adds)
     where
-      same : (o : Option Line) → addLine d n o ≡ ok y → hasOut d ≡ true → afterLine d o .feeds ≡ d .feeds → bare (afterLine d o) ≡ bare d → Wired (suc n) y m e
+      same : (o : Option Line) → addLine maxLen d n o ≡ ok y → hasOut d ≡ true → afterLine d o .feeds ≡ d .feeds → bare (afterLine d o) ≡ bare d → Wired (suc n) y m e
       same o g h q b =
           let is = added d y n o g in
           (x .0 ∙ sym b ∙ ap bare is, λ f. absurd (fed (d .feeds) h (sym q ∙ ap (λ (c : Draft). c .feeds) is ∙ f)))
 
-      go : (o : Option Line) → lineOf l ≡ o → addLine d n o ≡ ok y → Wired (suc n) y m e
+      go : (o : Option Line) → lineOf l ≡ o → addLine maxLen d n o ≡ ok y → Wired (suc n) y m e
       go none q g = absurd (not-ok g)
       go (some (node z v)) q g = absurd (true-false (sym (line-told l (node z v) q) ∙ w))
       go (some (out k)) q g = absurd (true-false (sym (line-told l (out k) q) ∙ w))
@@ -192,7 +193,7 @@ module _ (r : ℕ × Draft) (base : Draft) (nodes : base .nodes ≡ r .1 .nodes)
   targets-follow : Follows isTargetLine r TargetsSo
   targets-follow l n m d y e w x a = go (lineOf l) refl (a .adds)
     where
-      go : (o : Option Line) → lineOf l ≡ o → addLine d n o ≡ ok y → (e′ : Draft) × (addLine e m o ≡ ok e′) × TargetsSo (suc n) y (suc m) e′
+      go : (o : Option Line) → lineOf l ≡ o → addLine maxLen d n o ≡ ok y → (e′ : Draft) × (addLine maxLen e m o ≡ ok e′) × TargetsSo (suc n) y (suc m) e′
       go none q g = absurd (not-ok g)
       go (some (node z v)) q g = absurd (true-false (sym w ∙ wiring-not l (line-told l (node z v) q) .1))
       go (some (out k)) q g = absurd (true-false (sym w ∙ wiring-not l (line-told l (out k) q) .1))
@@ -205,10 +206,10 @@ module _ (r : ℕ × Draft) (base : Draft) (nodes : base .nodes ≡ r .1 .nodes)
   targets-stay : Stays isTargetLine r TargetsSo
   targets-stay l n m d y e w x a = go (lineOf l) refl (a .adds)
     where
-      same : (o : Option Line) → addLine d n o ≡ ok y → afterLine d o .targets ≡ d .targets → TargetsSo (suc n) y m e
+      same : (o : Option Line) → addLine maxLen d n o ≡ ok y → afterLine d o .targets ≡ d .targets → TargetsSo (suc n) y m e
       same o g q = x ∙ ap (withTargets base) (sym q ∙ ap (λ (c : Draft). c .targets) (added d y n o g))
 
-      go : (o : Option Line) → lineOf l ≡ o → addLine d n o ≡ ok y → TargetsSo (suc n) y m e
+      go : (o : Option Line) → lineOf l ≡ o → addLine maxLen d n o ≡ ok y → TargetsSo (suc n) y m e
       go none q g = absurd (not-ok g)
       go (some (node z v)) q g = same (some (node z v)) g refl
       go (some (out k)) q g = same (some (out k)) g refl

@@ -3,13 +3,13 @@
 use mathlib.Core.Path.{_≡_, refl, sym, ap, _∙_, subst}
 use mathlib.Core.Bool.{Bool, true, false, not, _||_}
 use mathlib.Core.List.{List, [], _++_, map, append-nil, List·Memᴰ, Memᴰ·append-right}
-use Prim.Native.Nat.{ℕ, _≤_}
+use Prim.Native.Nat.{ℕ, _+_, _*_, _≤_}
 use native.Mathlib.Omega.{arith}
 use lib.ListN.{length, length-append}
 use borrow.Author.Tests.{le-ltb}
 use Rattle.model.specs.Accepted.{Accepted}
 use Rattle.model.specs.Drafted.{ResetsFit}
-use Rattle.model.specs.Limits.{maxNetworkBytes}
+use Rattle.model.specs.Limits.{maxTargets, maxNetworkBytes, maxLen}
 use Rattle.model.specs.Network.{Node, Target, Config, Network, totalBits, Held, startOf}
 use Rattle.model.specs.NetworkText.{Draft, isSome, hasOut, readLines, networkOf, ifStarts, finish, noLines, readNetwork}
 use Rattle.model.specs.Path.{walk}
@@ -97,7 +97,7 @@ module _ (n held : Bytes) (net : Network) (plan : Plan) (is : readNetwork n ≡ 
   record TargetLines (asked : List Bytes) (ts : List Target) : Type 0 where
     free : Every (Free lineEnd) asked
     adds : (m : ℕ) → (k : ℕ) × (addAll filled m asked ≡ ok (k, withTargets filled ts))
-    short : length (textOfLines asked) ≤ 176
+    short : length (textOfLines asked) ≤ maxTargets * (12 + maxLen)
 
   module _ (asked : List Bytes) (ts : List Target) (behind : TargetLines asked ts) where
     abbrev text : Bytes
@@ -112,7 +112,7 @@ module _ (n held : Bytes) (net : Network) (plan : Plan) (is : readNetwork n ≡ 
     all-free : Every (Free lineEnd) lines
     all-free = every-append (Free lineEnd) (wiring ++ map heldLine rows) asked (every-append (Free lineEnd) wiring (map heldLine rows) wiring-free rows-free) (behind .free)
 
-    all-added : (k : ℕ) × (readLines noLines 1 (parts lineEnd text) ≡ ok (k, withTargets filled ts))
+    all-added : (k : ℕ) × (readLines maxLen noLines 1 (parts lineEnd text) ≡ ok (k, withTargets filled ts))
     all-added =
         let a = wiring-adds in
         let b = rows-read net acc left sized nodesAndOut nodes-are has (a .0) in
@@ -120,7 +120,7 @@ module _ (n held : Bytes) (net : Network) (plan : Plan) (is : readNetwork n ≡ 
         add-append wiring (map heldLine rows) noLines nodesAndOut 1 (a .0) (a .1) ∙ ap (addAll nodesAndOut (a .0)) (sym (held-lines left 1 (net .nodes))) ∙ b .1 in
         let d = behind .adds (b .0) in (
           d .0,
-          ap (λ (t : Bytes). readLines noLines 1 (parts lineEnd t)) text-is ∙ ap (readLines noLines 1) (text-parts lines all-free) ∙ read-ended lines noLines 1
+          ap (λ (t : Bytes). readLines maxLen noLines 1 (parts lineEnd t)) text-is ∙ ap (readLines maxLen noLines 1) (text-parts lines all-free) ∙ read-ended lines noLines 1
               ∙ add-append (wiring ++ map heldLine rows) asked noLines filled 1 (b .0) c ∙ d .1,
         )
 
@@ -146,7 +146,7 @@ module _ (n held : Bytes) (net : Network) (plan : Plan) (is : readNetwork n ≡ 
     reads : readNetwork text ≡ ok (restarted net left ts)
     unfolding readNetwork
     reads =
-        ap (λ (t : Bool). refuseIf t 3 0 (andThen (readLines noLines 1 (parts lineEnd text)) (λ r. finish (r .0) (r .1) (r .1 .feeds)))) (le-ltb maxNetworkBytes (length text) short)
+        ap (λ (t : Bool). refuseIf t 3 0 (andThen (readLines maxLen noLines 1 (parts lineEnd text)) (λ r. finish (r .0) (r .1) (r .1 .feeds)))) (le-ltb maxNetworkBytes (length text) short)
         ∙ ap (λ (x : Result (ℕ × Draft)). andThen x (λ r. finish (r .0) (r .1) (r .1 .feeds))) (all-added .1)
         ∙ ap (finish (all-added .0) (withTargets filled ts)) (source-feeds n net from)
         ∙ ap (λ (w : Network). ifStarts w (walk w (w .start))) network-is

@@ -25,13 +25,13 @@ use Rattle.carry_model.proofs.WordLines.{line-told, hold-not-target, wi
 -- lines that each fit what they add to `room`
 module _ (room : Draft → ℕ) (P : Bytes → Type 0) (Q : Draft → Type 0) where
   abbrev Fits : Type 0
-  Fits = (l : Bytes) (n : ℕ) (d y : Draft) → P l → Q d → addLine d n (lineOf l) ≡ ok y → (length l + 1 + room d ≤ room y) × Q y
+  Fits = (l : Bytes) (n : ℕ) (d y : Draft) → P l → Q d → addLine maxLen d n (lineOf l) ≡ ok y → (length l + 1 + room d ≤ room y) × Q y
 
   lines-fit : Fits → (ls : List Bytes) (d : Draft) (n : ℕ) (r : ℕ × Draft) → Every P ls → Q d → addAll d n ls ≡ ok r → length (textOfLines ls) + room d ≤ room (r .1)
   unfolding addAll textOfLines
   lines-fit one [] d n r w x e = let q : room d ≡ room (r .1) = ap (λ (x : ℕ × Draft). room (x .1)) (ok-is e) in omega arith
   lines-fit one (l ∷ ls) d n r w x e =
-      let h = handed (addLine d n (lineOf l)) _ r e in
+      let h = handed (addLine maxLen d n (lineOf l)) _ r e in
       let a = one l n d (h .value) (w .0) x (h .given) in
       let b = lines-fit one ls (h .value) (suc n) r (w .1) (a .1) (h .then) in
       omega (arith, a .0, length-append l (lineEnd ∷ textOfLines ls))
@@ -53,13 +53,13 @@ wiring-line l n d y w x e = (go (lineOf l) refl e, tt)
     no-out-yet none q = refl
     no-out-yet (some j) q = absurd (true-false q)
 
-    fits : (x : Node) (v : Reset) → addLine d n (some (node x v)) ≡ ok y → badReset x v ≡ false
+    fits : (x : Node) (v : Reset) → addLine maxLen d n (some (node x v)) ≡ ok y → badReset x v ≡ false
     fits x v g =
         let a = passed-test (hasOut d) 4 n _ y g in
-        let b = passed-test (outside n x) 2 n _ y (a .1) in
+        let b = passed-test (outside maxLen n x) 2 n _ y (a .1) in
         passed-test (badReset x v) 18 n _ y (b .1) .0
 
-    go : (o : Option Line) → lineOf l ≡ o → addLine d n o ≡ ok y → length l + 1 + wiringRoom d ≤ wiringRoom y
+    go : (o : Option Line) → lineOf l ≡ o → addLine maxLen d n o ≡ ok y → length l + 1 + wiringRoom d ≤ wiringRoom y
     go none q g = absurd (not-ok g)
     go (some (node x v)) q g =
         let a = line-bytes l (node x v) q (fits x v g) in
@@ -84,7 +84,7 @@ wiring-bytes ls d n k r w e f =
 
 -- ---- targets
 
--- no segment has more than 32 bits
+-- no segment has more bits than LEN may be
 pub len-most : (net : Network) → WellFormed net → (s : ℕ) → lenOf (at (net .nodes) s noNode) ≤ maxLen
 len-most net wf zero = omega arith
 len-most net wf (suc n) = go (decLt n (length (net .nodes)))
@@ -106,13 +106,13 @@ module _ (ns : List Node) (most : (s : ℕ) → lenOf (at ns s noNode) ≤ maxLe
 
   -- 11 bytes, the bits and the line's end
   abbrev targetRoom : Draft → ℕ
-  targetRoom d = 44 * length (d .targets)
+  targetRoom d = (12 + maxLen) * length (d .targets)
 
   target-line : Fits targetRoom (λ l. isTargetLine l ≡ true) (λ d. d .nodes ≡ ns)
   unfolding addTarget
   target-line l n d y w same e = go (lineOf l) refl e
     where
-      go : (o : Option Line) → lineOf l ≡ o → addLine d n o ≡ ok y → (length l + 1 + targetRoom d ≤ targetRoom y) × (y .nodes ≡ ns)
+      go : (o : Option Line) → lineOf l ≡ o → addLine maxLen d n o ≡ ok y → (length l + 1 + targetRoom d ≤ targetRoom y) × (y .nodes ≡ ns)
       go none q g = absurd (not-ok g)
       go (some (node x v)) q g = absurd (true-false (sym w ∙ wiring-not l (line-told l (node x v) q) .1))
       go (some (out k)) q g = absurd (true-false (sym w ∙ wiring-not l (line-told l (out k) q) .1))
@@ -127,5 +127,5 @@ module _ (ns : List Node) (most : (s : ℕ) → lenOf (at ns s noNode) ≤ maxLe
           (omega (arith, line-bytes l (target t) q), ap (λ (z : Draft). z .nodes) (sym is) ∙ same)
 
   pub target-bytes : (ls : List Bytes) (d : Draft) (n : ℕ) (r : ℕ × Draft) → Every (λ l. isTargetLine l ≡ true) ls → d .nodes ≡ ns → addAll d n ls ≡ ok r
-      → length (textOfLines ls) ≤ 44 * length (r .1 .targets)
+      → length (textOfLines ls) ≤ (12 + maxLen) * length (r .1 .targets)
   target-bytes ls d n r w same e = let a = lines-fit targetRoom (λ l. isTargetLine l ≡ true) (λ d. d .nodes ≡ ns) target-line ls d n r w same e in omega arith

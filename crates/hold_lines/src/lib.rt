@@ -103,7 +103,7 @@ fn put_node<'a>(
 fn line_bytes(nodes: &Nodes, s: usize) -> usize
     requires { ⌜ InWords (now nodes) s × (1 ≤ s) ⌝ }
     ensures { λ r. ⌜ LineLength (now (nodes .entry)) s r ⌝ }
-    ensures { λ r. ⌜ r ≤ 59 ⌝ }
+    ensures { λ r. ⌜ r ≤ 27 + wordWidth ⌝ }
 {
     if is_segment(nodes, s) {
         return 7 + digit_count(s) + segment_len(nodes, s);

@@ -7,6 +7,7 @@ use mathlib.Core.List.{List, [], _∷_, _++_, append-nil, List·Memᴰ, List·Me
 use Prim.Native.Nat.{ℕ, suc, _+_}
 use lib.ListN.{length}
 use lib.Dec.{leb, ltb}
+use Rattle.model.specs.Limits.{maxLen}
 use Rattle.model.specs.Network.{Network, totalBits, lenOf, isSteering}
 use Rattle.model.specs.NetworkText.{Line, node, out, hold, target, lineOf, Draft, hasOut, outside, badReset, withNode, addNode, firstBad, withOut, outIf, addOut, fitsBits, isHeld, withHold, addHold, targetSegment, fitsTarget, isTarget, withTarget, addTarget, addLine, atEnd, readLines, noLines}
 use Rattle.model.specs.Result.{Result, ok, andThen}
@@ -29,9 +30,9 @@ ended-all ls = ended-append ls [] [] ∙ append-nil ls
 
 unfoldable pub addAll : Draft → ℕ → List Bytes → Result (ℕ × Draft)
 addAll d n [] = ok (n, d)
-addAll d n (l ∷ ls) = andThen (addLine d n (lineOf l)) (λ e. addAll e (suc n) ls)
+addAll d n (l ∷ ls) = andThen (addLine maxLen d n (lineOf l)) (λ e. addAll e (suc n) ls)
 
-pub ended-read : (ls : List Bytes) (d : Draft) (n : ℕ) (r : ℕ × Draft) → readLines d n ls ≡ ok r → addAll d n (ended ls) ≡ ok r
+pub ended-read : (ls : List Bytes) (d : Draft) (n : ℕ) (r : ℕ × Draft) → readLines maxLen d n ls ≡ ok r → addAll d n (ended ls) ≡ ok r
 unfolding readLines addAll
 ended-read [] d n r e = e
 ended-read (l ∷ []) d n r e = last l e
@@ -40,21 +41,21 @@ ended-read (l ∷ []) d n r e = last l e
     last [] g = g
     last (b ∷ bs) g = absurd (not-ok g)
 ended-read (l ∷ m ∷ ls) d n r e =
-    let h = handed (addLine d n (lineOf l)) _ r e in
+    let h = handed (addLine maxLen d n (lineOf l)) _ r e in
     ap (λ (x : Result Draft). andThen x (λ y. addAll y (suc n) (ended (m ∷ ls)))) (h .given) ∙ ended-read (m ∷ ls) (h .value) (suc n) r (h .then)
 
-pub read-ended : (ls : List Bytes) (d : Draft) (n : ℕ) → readLines d n (ls ++ [] ∷ []) ≡ addAll d n ls
+pub read-ended : (ls : List Bytes) (d : Draft) (n : ℕ) → readLines maxLen d n (ls ++ [] ∷ []) ≡ addAll d n ls
 unfolding readLines addAll
 read-ended [] d n = refl
-read-ended (l ∷ []) d n = λ i. andThen (addLine d n (lineOf l)) (λ e. read-ended [] e (suc n) i)
-read-ended (l ∷ m ∷ ls) d n = λ i. andThen (addLine d n (lineOf l)) (λ e. read-ended (m ∷ ls) e (suc n) i)
+read-ended (l ∷ []) d n = λ i. andThen (addLine maxLen d n (lineOf l)) (λ e. read-ended [] e (suc n) i)
+read-ended (l ∷ m ∷ ls) d n = λ i. andThen (addLine maxLen d n (lineOf l)) (λ e. read-ended (m ∷ ls) e (suc n) i)
 
 -- lines, and lines behind them
 pub add-append : (ls ms : List Bytes) (d e : Draft) (n m : ℕ) → addAll d n ls ≡ ok (m, e) → addAll d n (ls ++ ms) ≡ addAll e m ms
 unfolding addAll
 add-append [] ms d e n m g = ap (λ (r : ℕ × Draft). addAll (r .1) (r .0) ms) (ok-is g)
 add-append (l ∷ ls) ms d e n m g =
-    let h = handed (addLine d n (lineOf l)) _ (m, e) g in
+    let h = handed (addLine maxLen d n (lineOf l)) _ (m, e) g in
     ap (λ (x : Result Draft). andThen x (λ y. addAll y (suc n) (ls ++ ms))) (h .given) ∙ add-append ls ms (h .value) e (suc n) m (h .then)
 
 -- the lines of an accepted text
@@ -70,12 +71,12 @@ afterLine d (some (out k)) = withOut d k
 afterLine d (some (hold s bs)) = withHold d s bs
 afterLine d (some (target t)) = withTarget d t
 
-pub added : (d e : Draft) (n : ℕ) (o : Option Line) → addLine d n o ≡ ok e → afterLine d o ≡ e
+pub added : (d e : Draft) (n : ℕ) (o : Option Line) → addLine maxLen d n o ≡ ok e → afterLine d o ≡ e
 unfolding addNode addOut addHold addTarget
 added d e n none g = absurd (not-ok g)
 added d e n (some (node x v)) g =
     let a = passed-test (hasOut d) 4 n _ e g in
-    let b = passed-test (outside n x) 2 n _ e (a .1) in
+    let b = passed-test (outside maxLen n x) 2 n _ e (a .1) in
     let w = passed-test (badReset x v) 18 n _ e (b .1) in
     let c = passed-test (leb 128 (length (d .nodes))) 3 n _ e (w .1) in
     ok-is (passed-test (ltb 4000 (totalBits (d .nodes) + lenOf x)) 3 n _ e (c .1) .1)
@@ -104,5 +105,5 @@ pub all-keep : (P : Draft → Type 0) (ls : List Bytes) → ((l : Bytes) → Lis
 unfolding addAll
 all-keep P [] keep d n r e p = subst (λ (x : ℕ × Draft). P (x .1)) (ok-is e) p
 all-keep P (l ∷ ls) keep d n r e p =
-    let h = handed (addLine d n (lineOf l)) _ r e in
+    let h = handed (addLine maxLen d n (lineOf l)) _ r e in
     all-keep P ls (λ k m. keep k (List·Memᴰ·tail m)) (h .value) (suc n) r (h .then) (subst P (added d (h .value) n (lineOf l) (h .given)) (keep l (List·Memᴰ·head refl) d p))

@@ -12,6 +12,7 @@ use lib.Dec.{eqb, leb, ltb}
 use borrow.Author.Tests.{ltb-true, eqb-false, not-true}
 use Rattle.model.specs.Accepted.{WellFormed}
 use Rattle.model.specs.Drafted.{EachNode, Stage, no-out, behind-out, Sound}
+use Rattle.model.specs.Limits.{maxLen}
 use Rattle.model.specs.Network.{Node, segment, multiplexer, Target, Network, at, noNode, isSegment, lenOf, totalBits, isSteering}
 use Rattle.model.specs.NetworkText.{Reset, badReset, Line, node, out, hold, target, lineOf, Draft, hasOut, outside, addNode, badAddress, firstBad, outIf, addOut, fitsBits, isHeld, addHold, targetSegment, fitsTarget, isTarget, addTarget, addLine, atEnd, readLines, networkOf, ifStarts, finish, noLines, readNetwork}
 use Rattle.model.specs.Path.{Walk, path, stop, bitOf, walk}
@@ -75,11 +76,11 @@ module _ (t : Bytes) where
   Keeps r = Ends (NetworkRefusal t) (λ (d : Draft). NodesOn (d .nodes)) r
 
   module _ (d : Draft) (n : ℕ) (l : IsLine t n) (on : NodesOn (d .nodes)) where
-    node-ends : (x : Node) (v : Reset) → Sound d n → lineOf (at (parts lineEnd t) n []) ≡ some (node x v) → Keeps (addNode d n x v)
+    node-ends : (x : Node) (v : Reset) → Sound d n → lineOf (at (parts lineEnd t) n []) ≡ some (node x v) → Keeps (addNode maxLen d n x v)
     unfolding addNode
     node-ends x v s e =
         ends-if (hasOut d) 4 n _ (λ h. out-of-order l)
-        (λ h. ends-if (outside n x) 2 n _ (λ h. out-of-bounds l)
+        (λ h. ends-if (outside maxLen n x) 2 n _ (λ h. out-of-bounds l)
         (λ _. ends-if (badReset x v) 18 n _ (λ h. wrong-reset (reset-line n x v e h))
         (λ _. ends-if (leb 128 (length (d .nodes))) 3 n _ (λ h. too-large l)
         (λ _. ends-if (ltb 4000 (totalBits (d .nodes) + lenOf x)) 3 n _ (λ h. too-large l)
@@ -119,7 +120,7 @@ module _ (t : Bytes) where
         (λ h. ends-if (isSteering (d .nodes) (targetSegment x)) 7 n _ (λ h. target-steers l)
         (λ h. ends-if (leb 4 (length (d .targets))) 8 n _ (λ h. fifth-target l) (λ h. gives on)))))
 
-    line-ends : (o : Option Line) → Sound d n → lineOf (at (parts lineEnd t) n []) ≡ o → Keeps (addLine d n o)
+    line-ends : (o : Option Line) → Sound d n → lineOf (at (parts lineEnd t) n []) ≡ o → Keeps (addLine maxLen d n o)
     line-ends none s e = refuses (wrong-form l)
     line-ends (some (node x v)) s e = node-ends x v s e
     line-ends (some (out k)) s e = out-ends k
@@ -134,7 +135,7 @@ module _ (t : Bytes) where
     on : NodesOn (r .1 .nodes)
 
   lines-end : (l : Bytes) (ls : List Bytes) (m : ℕ) (d : Draft) → drop m (parts lineEnd t) ≡ l ∷ ls → Sound d (suc m) → NodesOn (d .nodes)
-      → Ends (NetworkRefusal t) Read (readLines d (suc m) (l ∷ ls))
+      → Ends (NetworkRefusal t) Read (readLines maxLen d (suc m) (l ∷ ls))
   unfolding readLines
   lines-end l [] m d e s on = last l (omega (arith, line-at t m l [] e .count))
     where
@@ -167,7 +168,7 @@ module _ (t : Bytes) where
   unfolding readNetwork
   network-ends =
       let p = parts-more lineEnd t in
-      let lines : Ends (NetworkRefusal t) Read (readLines noLines 1 (parts lineEnd t)) =
+      let lines : Ends (NetworkRefusal t) Read (readLines maxLen noLines 1 (parts lineEnd t)) =
       rw (p .2) (lines-end (p .0) (p .1) 0 noLines (p .2) sound-start (λ i l. absurd (not-suc-le-zero l))) in
       ends-if (ltb 16384 (length t)) 3 0 _ (λ h. too-long (ltb-true 16384 (length t) h))
       (λ h. ends-then _ lines (λ r e x. finish-ends (r .0) (r .1) x (r .1 .feeds) refl))

@@ -10,6 +10,7 @@ use lib.ListN.{length, drop}
 use lib.Dec.{leb, ltb}
 use borrow.Author.Tests.{ltb-true, ltb-false, lt-leb}
 use Rattle.model.specs.Drawn.{A}
+use Rattle.model.specs.Limits.{maxLen}
 use Rattle.model.specs.Network.{Held, heldOr, startOf}
 use Rattle.model.specs.NetworkText.{Reset, Line, node, out, hold, target, field, resetField, segLine, lineBy, lineOf, Draft, addNode, addLine, readLines, finish, noLines, readNetwork}
 use Rattle.model.specs.Resets.{segLineWithoutReset, lineByWithoutReset, lineWithoutReset, addLineWithoutReset, readLinesWithoutReset, startWithoutReset, finishWithoutReset, readWithoutReset, OldForm, ReadAsBefore, AcceptedAsBefore}
@@ -87,23 +88,23 @@ no-reset l old = line-form NoReset l record {
   of-read = λ s f. tt;
 }
 
-add-before : (d : Draft) (n : ℕ) (o : Option Line) → ((line : Line) → o ≡ some line → NoReset line) → addLine d n o ≡ addLineWithoutReset d n o
+add-before : (d : Draft) (n : ℕ) (o : Option Line) → ((line : Line) → o ≡ some line → NoReset line) → addLine maxLen d n o ≡ addLineWithoutReset d n o
 unfolding addNode
 add-before d n none f = refl
-add-before d n (some (node x v)) f = ap (addNode d n x) (f (node x v) refl)
+add-before d n (some (node x v)) f = ap (addNode maxLen d n x) (f (node x v) refl)
 add-before d n (some (out k)) f = refl
 add-before d n (some (hold s bs)) f = refl
 add-before d n (some (target t)) f = refl
 
 -- ---- the lines in turn
 
-lines-before : (ls : List Bytes) → ((l : Bytes) → List·Memᴰ l (ended ls) → Old l) → (d : Draft) (n : ℕ) → readLines d n ls ≡ readLinesWithoutReset d n ls
+lines-before : (ls : List Bytes) → ((l : Bytes) → List·Memᴰ l (ended ls) → Old l) → (d : Draft) (n : ℕ) → readLines maxLen d n ls ≡ readLinesWithoutReset d n ls
 unfolding readLines readLinesWithoutReset
 lines-before [] f d n = refl
 lines-before (l ∷ []) f d n = refl
 lines-before (l ∷ m ∷ ls) f d n =
     let old : Old l = f l (List·Memᴰ·head refl) in
-    ap (λ (r : Result Draft). andThen r (λ y. readLines y (suc n) (m ∷ ls))) (add-before d n (lineOf l) (no-reset l old) ∙ ap (addLineWithoutReset d n) (line-before l old))
+    ap (λ (r : Result Draft). andThen r (λ y. readLines maxLen y (suc n) (m ∷ ls))) (add-before d n (lineOf l) (no-reset l old) ∙ ap (addLineWithoutReset d n) (line-before l old))
     ∙ (λ i. andThen (addLineWithoutReset d n (lineWithoutReset l)) (λ y. lines-before (m ∷ ls) (λ k x. f k (List·Memᴰ·tail x)) y (suc n) i))
 
 -- no RESET is kept
@@ -130,10 +131,10 @@ pub read-as-before : ReadAsBefore
 unfolding readNetwork readWithoutReset
 read-as-before t old =
     ap (refuseIf (ltb 16384 (length t)) 3 0)
-    (then-same (readLines noLines 1 (parts lineEnd t)) _ (λ r. finishWithoutReset (r .0) (r .1) (r .1 .feeds)) (λ r e. finish-before (r .0) (r .1) (no-resets r e) (r .1 .feeds))
+    (then-same (readLines maxLen noLines 1 (parts lineEnd t)) _ (λ r. finishWithoutReset (r .0) (r .1) (r .1 .feeds)) (λ r e. finish-before (r .0) (r .1) (no-resets r e) (r .1 .feeds))
     ∙ ap (λ (x : Result (ℕ × Draft)). andThen x (λ r. finishWithoutReset (r .0) (r .1) (r .1 .feeds))) (lines-before (parts lineEnd t) old noLines 1))
   where
-    no-resets : (r : ℕ × Draft) → readLines noLines 1 (parts lineEnd t) ≡ ok r → r .1 .resets ≡ []
+    no-resets : (r : ℕ × Draft) → readLines maxLen noLines 1 (parts lineEnd t) ≡ ok r → r .1 .resets ≡ []
     no-resets r e = all-keep (λ (d : Draft). d .resets ≡ []) (linesOf t) (λ l m. none-kept l (old l m)) noLines 1 r (ended-read (parts lineEnd t) noLines 1 r e) refl
 
 -- ---- so an accepted text stays accepted

@@ -9,6 +9,7 @@ use native.Mathlib.Omega.{arith}
 use lib.ListN.{length}
 use lib.Dec.{eqb, leb, ltb}
 use borrow.Author.Tests.{eqb-false, not-true, ne-eqb}
+use Rattle.model.specs.Limits.{maxLen}
 use Rattle.model.specs.Network.{Node, Target, lenOf, totalBits, isSteering}
 use Rattle.model.specs.NetworkText.{Reset, Line, node, out, hold, target, lineBy, lineOf, Draft, hasOut, outside, badReset, addNode, firstBad, outIf, addOut, fitsBits, isHeld, addHold, targetSegment, fitsTarget, isTarget, addTarget, addLine}
 use Rattle.model.specs.Resets.{ResetsRead, WrongReset, ResetRefused}
@@ -44,7 +45,7 @@ resets-read l = record {
 
 -- ---- 18
 
-given : (d : Draft) (n : ℕ) (x : Node) (v : Reset) → hasOut d ≡ false → outside n x ≡ false → badReset x v ≡ true → addNode d n x v ≡ refused 18 n
+given : (d : Draft) (n : ℕ) (x : Node) (v : Reset) → hasOut d ≡ false → outside maxLen n x ≡ false → badReset x v ≡ true → addNode maxLen d n x v ≡ refused 18 n
 unfolding addNode
 given d n x v a b c = rw (a, b, c)
 
@@ -59,17 +60,17 @@ module _ (d : Draft) (n place : ℕ) where
   none-at : (line : Option Line) (e : Draft) → Only line (ok e)
   none-at line e g = absurd (not-ok (sym g))
 
-  wrong-of : (x : Node) (v : Reset) → hasOut d ≡ false → outside n x ≡ false → badReset x v ≡ true → WrongReset d n (some (node x v))
+  wrong-of : (x : Node) (v : Reset) → hasOut d ≡ false → outside maxLen n x ≡ false → badReset x v ≡ true → WrongReset d n (some (node x v))
   wrong-of x none a b c = absurd (true-false (sym c))
   wrong-of x (some bs) a b c =
       record { newNode = x; itsReset = bs; says = refl; in-order = a; within = b; wrong = eqb-false (length bs) (lenOf x) (not-true (eqb (length bs) (lenOf x)) c) }
 
-  by-node : (x : Node) (v : Reset) → Only (some (node x v)) (addNode d n x v)
+  by-node : (x : Node) (v : Reset) → Only (some (node x v)) (addNode maxLen d n x v)
   unfolding addNode
   by-node x v =
       let line : Option Line = some (node x v) in
       refuse-case (Only line) (hasOut d) 4 n _ (λ _. other line 4 n (λ q. omega arith))
-      (λ in-order. refuse-case (Only line) (outside n x) 2 n _ (λ _. other line 2 n (λ q. omega arith))
+      (λ in-order. refuse-case (Only line) (outside maxLen n x) 2 n _ (λ _. other line 2 n (λ q. omega arith))
       (λ within. refuse-case (Only line) (badReset x v) 18 n _
       (λ wrong e. (wrong-of x v in-order within wrong, sym (refusal-place e)))
       (λ _. refuse-case (Only line) (leb 128 (length (d .nodes))) 3 n _ (λ _. other line 3 n (λ q. omega arith))
@@ -104,7 +105,7 @@ module _ (d : Draft) (n place : ℕ) where
       (λ _. refuse-case (Only line) (isSteering (d .nodes) (targetSegment t)) 7 n _ (λ _. other line 7 n (λ q. omega arith))
       (λ _. refuse-case (Only line) (leb 4 (length (d .targets))) 8 n _ (λ _. other line 8 n (λ q. omega arith)) (λ _. none-at line _)))))
 
-  by-line : (line : Option Line) → Only line (addLine d n line)
+  by-line : (line : Option Line) → Only line (addLine maxLen d n line)
   by-line none = other none 1 n (λ q. omega arith)
   by-line (some (node x v)) = by-node x v
   by-line (some (out k)) = by-out k
@@ -114,5 +115,5 @@ module _ (d : Draft) (n place : ℕ) where
 pub reset-refused : ResetRefused
 reset-refused d n line place = (
   by-line d n place line,
-  λ (w, q). ap (addLine d n) (w .says) ∙ given d n (w .newNode) (some (w .itsReset)) (w .in-order) (w .within) (ap not (ne-eqb (length (w .itsReset)) (lenOf (w .newNode)) (w .wrong))) ∙ ap (refused 18) (sym q),
+  λ (w, q). ap (addLine maxLen d n) (w .says) ∙ given d n (w .newNode) (some (w .itsReset)) (w .in-order) (w .within) (ap not (ne-eqb (length (w .itsReset)) (lenOf (w .newNode)) (w .wrong))) ∙ ap (refused 18) (sym q),
 )

@@ -10,6 +10,7 @@ use lib.ListN.{length, getD, length-append}
 use lib.Seq.{getD-append-seam}
 use borrow.Author.Tests.{not-false}
 use Rattle.model.specs.Drafted.{Sound, Stage, no-out, behind-out}
+use Rattle.model.specs.Limits.{maxLen}
 use Rattle.model.specs.Network.{Node, Network, at, noNode, isSegment, lenOf, heldOr, silentBits, startOf}
 use Rattle.model.specs.NetworkText.{Reset, Line, node, out, hold, target, lineOf, Draft, hasOut, withNode, addNode, fitsBits, isHeld, addHold, addLine, noLines}
 use Rattle.model.specs.Resets.{NotHeld, ResetStarts}
@@ -74,11 +75,11 @@ hold-line : (ls : List Bytes) (d : Draft) (n : ℕ) (r : ℕ × Draft) → addAl
     → lineOf l ≡ some (hold s bs) → HeldAs s bs (r .1)
 unfolding addAll
 hold-line [] d n r g l s bs m e = absurd (List·Memᴰ·not-nil m)
-hold-line (k ∷ ls) d n r g l s bs (List·Memᴰ·tail m) e = let h = handed (addLine d n (lineOf k)) _ r g in hold-line ls (h .value) (suc n) r (h .then) l s bs m e
+hold-line (k ∷ ls) d n r g l s bs (List·Memᴰ·tail m) e = let h = handed (addLine maxLen d n (lineOf k)) _ r g in hold-line ls (h .value) (suc n) r (h .then) l s bs m e
 hold-line (k ∷ ls) d n r g l s bs (List·Memᴰ·head q) e =
-    let h = handed (addLine d n (lineOf k)) _ r g in
+    let h = handed (addLine maxLen d n (lineOf k)) _ r g in
     all-keep (HeldAs s bs) ls (λ k m d p. held-stays s bs d (lineOf k) p) (h .value) (suc n) r (h .then)
-    (now-held d (h .value) n s bs (ap (addLine d n) (sym (ap lineOf (sym q) ∙ e)) ∙ h .given))
+    (now-held d (h .value) n s bs (ap (addLine maxLen d n) (sym (ap lineOf (sym q) ∙ e)) ∙ h .given))
 
 -- ---- RESETs
 
@@ -92,7 +93,7 @@ record ResetAs (s : ℕ) (x : Node) (v : Reset) (d : Draft) : Type 0 where
   is : at (d .nodes) s noNode ≡ x
   gives : (other : List Trit) → heldOr other (d .resets) s ≡ resetOr other v
 
-now-reset : (d e : Draft) (n : ℕ) (x : Node) (v : Reset) → Sound d n → addNode d n x v ≡ ok e → ResetAs n x v e
+now-reset : (d e : Draft) (n : ℕ) (x : Node) (v : Reset) → Sound d n → addNode maxLen d n x v ≡ ok e → ResetAs n x v e
 unfolding addNode
 now-reset d e n x v s g = subst (ResetAs n x v) (added d e n (some (node x v)) g) (by-stage (passed-test (hasOut d) 4 n _ e g .0) (s .stage))
   where
@@ -136,11 +137,11 @@ node-line : (ls : List Bytes) (i : ℕ) (d : Draft) (n : ℕ) (r : ℕ × Draft)
 unfolding addAll
 node-line [] i d n r g s x v e = absurd (empty-line (node x v) e)
 node-line (k ∷ ls) zero d n r g s x v e =
-    let h = handed (addLine d n (lineOf k)) _ r g in
-    let now = now-reset d (h .value) n x v s (ap (addLine d n) (sym e) ∙ h .given) in
+    let h = handed (addLine maxLen d n (lineOf k)) _ r g in
+    let now = now-reset d (h .value) n x v s (ap (addLine maxLen d n) (sym e) ∙ h .given) in
     subst (λ (j : ℕ). ResetAs j x v (r .1)) (let q : n ≡ n + 0 = omega arith in q) (all-keep (ResetAs n x v) ls (λ k m d p. reset-stays n x v d (lineOf k) p) (h .value) (suc n) r (h .then) now)
 node-line (k ∷ ls) (suc i) d n r g s x v e =
-    let h = handed (addLine d n (lineOf k)) _ r g in
+    let h = handed (addLine maxLen d n (lineOf k)) _ r g in
     subst (λ (j : ℕ). ResetAs j x v (r .1)) (let q : suc n + i ≡ n + suc i = omega arith in q)
     (node-line ls i (h .value) (suc n) r (h .then) (sound-line d (h .value) n k s (h .given)) x v e)
 

@@ -7,7 +7,7 @@ use mathlib.Core.Option.{none, some}
 use mathlib.Core.List.{List, [], List·Memᴰ}
 use Prim.Native.Nat.{ℕ, suc, _≤_, _<_}
 use lib.ListN.{length, getD}
-use Rattle.model.specs.Limits.{maxNodes, maxBits}
+use Rattle.model.specs.Limits.{maxNodes, maxBits, maxLen}
 use Rattle.model.specs.Network.{segment, Node, multiplexer, at, noNode, lenOf, totalBits, Held}
 use Rattle.model.specs.NetworkText.{Draft, outside, firstBad}
 use Rattle.model.specs.Accepted.{TargetsFit}
@@ -21,7 +21,7 @@ GoodForm (multiplexer s b ins) = (2 ≤ length ins) × (length ins ≤ 4)
 
 -- a node within its bounds, with a good count of inputs
 pub record Placed (k : ℕ) (x : Node) : Type 0 where
-  pub within : outside k x ≡ false
+  pub within : outside maxLen k x ≡ false
   pub form : GoodForm x
 
 -- P of each node and its number

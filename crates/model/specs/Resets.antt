@@ -8,7 +8,7 @@ use mathlib.Core.List.{List, [], _∷_, List·Memᴰ}
 use Prim.Native.Nat.{ℕ, suc, _+_}
 use lib.ListN.{length, replicate}
 use lib.Dec.{leb, ltb}
-use Rattle.model.specs.Limits.{maxNodes, maxBits, maxNetworkBytes}
+use Rattle.model.specs.Limits.{maxNodes, maxBits, maxNetworkBytes, maxLen}
 use Rattle.model.specs.Refusals as refusal
 use Rattle.model.specs.Result.{Result, ok, refused, refuseIf, andThen}
 use Rattle.model.specs.Text.{Bytes, bind, parts, fields, linesOf, lineEnd, decimal, LineWord, Seg, Mux, Out, Hold, Write, Read, Csu, wordOf, Trit, trit, bitsField}
@@ -67,17 +67,17 @@ lineWithoutReset l = bind (wordOf (field (fields l) 0)) (lineByWithoutReset (fie
 abbrev pub addNodeWithoutReset : Draft → ℕ → Node → Result Draft
 addNodeWithoutReset d n x =
     refuseIf (hasOut d) refusal.order n
-    (refuseIf (outside n x) refusal.bounds n
+    (refuseIf (outside maxLen n x) refusal.bounds n
     (refuseIf (leb maxNodes (length (d .nodes))) refusal.size n
     (refuseIf (ltb maxBits (totalBits (d .nodes) + lenOf x)) refusal.size n
     (ok (withNode d x none)))))
 
 abbrev pub addLineWithoutReset : Draft → ℕ → Option Line → Result Draft
-addLineWithoutReset d n none = addLine d n none
+addLineWithoutReset d n none = addLine maxLen d n none
 addLineWithoutReset d n (some (node x v)) = addNodeWithoutReset d n x
-addLineWithoutReset d n (some (out k)) = addLine d n (some (out k))
-addLineWithoutReset d n (some (hold s bs)) = addLine d n (some (hold s bs))
-addLineWithoutReset d n (some (target t)) = addLine d n (some (target t))
+addLineWithoutReset d n (some (out k)) = addLine maxLen d n (some (out k))
+addLineWithoutReset d n (some (hold s bs)) = addLine maxLen d n (some (hold s bs))
+addLineWithoutReset d n (some (target t)) = addLine maxLen d n (some (target t))
 
 unfoldable pub readLinesWithoutReset : Draft → ℕ → List Bytes → Result (ℕ × Draft)
 readLinesWithoutReset d n [] = ok (n, d)
@@ -119,9 +119,9 @@ pub record WrongReset (d : Draft) (n : ℕ) (line : Option Line) : Type 0 where
   pub itsReset : List Trit
   pub says : line ≡ some (node newNode (some itsReset))
   pub in-order : hasOut d ≡ false
-  pub within : outside n newNode ≡ false
+  pub within : outside maxLen n newNode ≡ false
   pub wrong : length itsReset ≡ lenOf newNode → ⊥
 
 -- so before 3, whatever has been read, and for nothing else
 abbrev pub ResetRefused : Type 0
-ResetRefused = (d : Draft) (n : ℕ) (line : Option Line) (place : ℕ) → (addLine d n line ≡ refused refusal.resetLength place) ↔ (WrongReset d n line × (place ≡ n))
+ResetRefused = (d : Draft) (n : ℕ) (line : Option Line) (place : ℕ) → (addLine maxLen d n line ≡ refused refusal.resetLength place) ↔ (WrongReset d n line × (place ≡ n))

@@ -9,6 +9,7 @@ use native.Mathlib.Decide.{decLt}
 use lib.ListN.{length, getD, List·getD-eq-default}
 use lib.Dec.{leb, ltb}
 use borrow.Author.Tests.{ltb-false}
+use Rattle.model.specs.Limits.{maxLen}
 use Rattle.model.specs.Result.{Result, ok, refused}
 use Rattle.model.specs.Network.{Node, segment, multiplexer, noNode, lenOf, steers, steersAt, at}
 use Rattle.model.specs.Path.{nodeOf}
@@ -58,8 +59,8 @@ steers-more [] x s b = or-false-right (steersAt x s b)
 steers-more (n ∷ ns) x s b = ap (λ (t : Bool). steersAt n s b || t) (steers-more ns x s b) ∙ or-assoc (steersAt n s b) (steers ns s b) (steersAt x s b)
 
 -- no segment is longer than a word
-pub len-small : (k : ℕ) (x : Node) → outside k x ≡ false → lenOf x ≤ wordWidth
-len-small k (segment from len sh) e = let l = ltb-false 32 len (or-parts (leb k from || ltb len 1) (ltb 32 len) e .1) in omega arith
+pub len-small : (k : ℕ) (x : Node) → outside maxLen k x ≡ false → lenOf x ≤ wordWidth
+len-small k (segment from len sh) e = let l = ltb-false maxLen len (or-parts (leb k from || ltb len 1) (ltb maxLen len) e .1) in omega arith
 len-small k (multiplexer s b ins) e = omega arith
 
 -- ---- what a representation says

@@ -9,6 +9,7 @@ use native.Mathlib.Decide.{decLt}
 use lib.ListN.{length, getD, set, length-set, List·getD-eq-default}
 use lib.Dec.{eqb, leb, ltb}
 use borrow.Author.Tests.{eq-eqb, ne-eqb, ltb-false}
+use Rattle.model.specs.Limits.{maxLen}
 use Rattle.model.specs.Result.{ok, refused}
 use Rattle.model.specs.Text.{Bytes, Trit, trit, bitsFrom}
 use Rattle.model.specs.Network.{Node, segment, multiplexer, at, noNode, isSegment, lenOf, heldOr}
@@ -28,8 +29,8 @@ use Rattle.network_draft.proofs.GivenBits.{one, held-more, held-others, Gives, 
 
 module _ {a : Arrays} {t : Summary} {d : Draft} {n : ℕ} (w : Represents a t d n) where
   -- a node without bits is no segment
-  segment-long : (k : ℕ) (x : Node) → outside k x ≡ false → lenOf x ≡ 0 → isSegment x ≡ false
-  segment-long k (segment from len s) e z = let a = or-parts (leb k from || ltb len 1) (ltb 32 len) e in let b = or-parts (leb k from) (ltb len 1) (a .0) in absurd (let l = ltb-false len 1 (b .1) in omega arith)
+  segment-long : (k : ℕ) (x : Node) → outside maxLen k x ≡ false → lenOf x ≡ 0 → isSegment x ≡ false
+  segment-long k (segment from len s) e z = let a = or-parts (leb k from || ltb len 1) (ltb maxLen len) e in let b = or-parts (leb k from) (ltb len 1) (a .0) in absurd (let l = ltb-false len 1 (b .1) in omega arith)
   segment-long k (multiplexer s b ins) e z = refl
 
   pub no-bits : (s : ℕ) → lenOf (at (d .nodes) s noNode) ≡ 0 → isSegment (at (d .nodes) s noNode) ≡ false

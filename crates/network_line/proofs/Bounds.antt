@@ -7,6 +7,7 @@ use native.Mathlib.Omega.{arith}
 use native.Mathlib.Decide.{decLt}
 use lib.Dec.{leb, ltb}
 use borrow.Author.Tests.{le-leb, lt-leb, lt-ltb, le-ltb}
+use Rattle.model.specs.Limits.{maxLen}
 use Rattle.model.specs.Network.{segment}
 use Rattle.model.specs.NetworkText.{anyFrom, outside}
 use Rattle.network_line.specs.Line.{inputsOf}
@@ -57,11 +58,11 @@ module _ (n count a b c d : ℕ) (lo : 2 ≤ count) (hi : count ≤ 4) where
           last false = refl
 
 module _ (n from len : ℕ) (s : Bool) where
-  pub outside-from : n ≤ from → true ≡ outside n (segment from len s)
+  pub outside-from : n ≤ from → true ≡ outside maxLen n (segment from len s)
   outside-from h = rw (le-leb n from h)
 
-  pub outside-short : from < n → len < 1 → true ≡ outside n (segment from len s)
+  pub outside-short : from < n → len < 1 → true ≡ outside maxLen n (segment from len s)
   outside-short g h = rw (lt-leb n from g, lt-ltb len 1 h)
 
-  pub outside-long : from < n → 1 ≤ len → ltb 32 len ≡ outside n (segment from len s)
+  pub outside-long : from < n → 1 ≤ len → ltb maxLen len ≡ outside maxLen n (segment from len s)
   outside-long g h = rw (lt-leb n from g, le-ltb len 1 h)

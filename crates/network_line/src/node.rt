@@ -3,6 +3,7 @@ use crate::NodeData;
 use model::limits::MAX_LEN;
 ghost use mathlib.Core.Path.{_≡_};
 ghost use Prim.Native.Nat.{_≤_};
+ghost use Rattle.model.specs.Limits.{maxLen};
 ghost use Rattle.model.specs.Network.{lenOf};
 ghost use Rattle.model.specs.NetworkText.{outside, anyFrom};
 ghost use Rattle.network_line.specs.Line.{nodeFor, inputsOf, SmallNode};
@@ -33,7 +34,7 @@ fn inputs_outside(n: usize, count: usize, a: usize, b: usize, c: usize, d: usize
 // Whether FROM, an input or LEN of the node of number n is outside its bounds.
 pub fn is_outside(n: usize, x: NodeData) -> bool
     requires { ⌜ SmallNode x ⌝ }
-    ensures { λ r. ⌜ r ≡ outside n (nodeFor x) ⌝ }
+    ensures { λ r. ⌜ r ≡ outside maxLen n (nodeFor x) ⌝ }
 {
     match x {
         NodeData::Segment {

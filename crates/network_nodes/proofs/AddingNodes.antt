@@ -9,6 +9,7 @@ use native.Mathlib.Nat.{zero-add}
 use lib.ListN.{length, getD, take, set, length-set}
 use lib.Dec.{eqb}
 use borrow.Author.Tests.{eqb-true, eqb-false, ne-eqb, not-false, le-leb, lt-leb, lt-ltb, le-ltb}
+use Rattle.model.specs.Limits.{maxLen}
 use Rattle.model.specs.Result.{ok, refused}
 use Rattle.model.specs.Text.{Bytes, Trit, trit, bitsFrom}
 use Rattle.model.specs.Network.{Node, at, noNode, lenOf, totalBits, tabulate, steersAt, heldOr, Held}
@@ -34,30 +35,30 @@ use Rattle.network_draft.proofs.GivenBits.{bits-in-length, one, held-more, held
 -- ---- the refusals
 
 module _ (d : Draft) (n : ℕ) (x : Node) (v : Reset) where
-  pub node-4 : hasOut d ≡ true → addNode d n x v ≡ refused 4 n
+  pub node-4 : hasOut d ≡ true → addNode maxLen d n x v ≡ refused 4 n
   unfolding addNode
   node-4 e = rw e
 
-  pub node-2 : hasOut d ≡ false → outside n x ≡ true → addNode d n x v ≡ refused 2 n
+  pub node-2 : hasOut d ≡ false → outside maxLen n x ≡ true → addNode maxLen d n x v ≡ refused 2 n
   unfolding addNode
   node-2 e f = rw (e, f)
 
-  module _ (e : hasOut d ≡ false) (f : outside n x ≡ false) where
-    pub reset-18 : badReset x v ≡ true → addNode d n x v ≡ refused 18 n
+  module _ (e : hasOut d ≡ false) (f : outside maxLen n x ≡ false) where
+    pub reset-18 : badReset x v ≡ true → addNode maxLen d n x v ≡ refused 18 n
     unfolding addNode
     reset-18 b = rw (e, f, b)
 
     module _ (b : badReset x v ≡ false) where
-      pub node-3 : 128 ≤ length (d .nodes) → addNode d n x v ≡ refused 3 n
+      pub node-3 : 128 ≤ length (d .nodes) → addNode maxLen d n x v ≡ refused 3 n
       unfolding addNode
       node-3 h = rw (e, f, b, le-leb 128 (length (d .nodes)) h)
 
       module _ (h : length (d .nodes) < 128) where
-        pub bits-3 : 4000 < totalBits (d .nodes) + lenOf x → addNode d n x v ≡ refused 3 n
+        pub bits-3 : 4000 < totalBits (d .nodes) + lenOf x → addNode maxLen d n x v ≡ refused 3 n
         unfolding addNode
         bits-3 k = rw (e, f, b, lt-leb 128 (length (d .nodes)) h, lt-ltb 4000 (totalBits (d .nodes) + lenOf x) k)
 
-        pub node-added : totalBits (d .nodes) + lenOf x ≤ 4000 → addNode d n x v ≡ ok (withNode d x v)
+        pub node-added : totalBits (d .nodes) + lenOf x ≤ 4000 → addNode maxLen d n x v ≡ ok (withNode d x v)
         unfolding addNode
         node-added k = rw (e, f, b, lt-leb 128 (length (d .nodes)) h, le-ltb 4000 (totalBits (d .nodes) + lenOf x) k)
 
@@ -70,7 +71,7 @@ reset-unfit x [] form = refl
 reset-unfit x (b ∷ f) form = rw (some-bits (length f)) (ap (λ (k : ℕ). not (eqb k (lenOf x))) (bits-in-length trit (b ∷ f) form))
 
 -- a RESET that fits is not longer than a word
-pub short-reset : (n : ℕ) (x : Node) (reset : ℕ) → outside n x ≡ false → unfitReset reset (lenOf x) ≡ false → reset ≤ wordWidth
+pub short-reset : (n : ℕ) (x : Node) (reset : ℕ) → outside maxLen n x ≡ false → unfitReset reset (lenOf x) ≡ false → reset ≤ wordWidth
 short-reset n x zero o e = omega arith
 short-reset n x (suc k) o e = let q = eqb-true (suc k) (lenOf x) (not-false _ (rw (some-bits k) at e)) in omega (arith, len-small n x o)
 
@@ -141,7 +142,7 @@ module _ (d : Draft) (x : Node) (ns ns′ : List ℕ) (bare : d .holds ≡ []) (
 
 module _ {a : Arrays} {t : Summary} {d : Draft} {n : ℕ} (w : Represents a t d n) (x : Node) (form : GoodForm x) (f : Bytes) (good : isSome (bitsFrom trit [] f) ≡ true)
     (ns′ steering′ : List ℕ) (stored : NumbersStored (a .nodes) (t .count + 1) (numbersFor x) ns′) (marked : Marked (a .steering) x steering′)
-    (no : hasOut d ≡ false) (inside : outside n x ≡ false) (fits : unfitReset (length f) (lenOf x) ≡ false) (few : t .count < 128) (short : totalBits (d .nodes) + lenOf x ≤ 4000) where
+    (no : hasOut d ≡ false) (inside : outside maxLen n x ≡ false) (fits : unfitReset (length f) (lenOf x) ≡ false) (few : t .count < 128) (short : totalBits (d .nodes) + lenOf x ≤ 4000) where
   abbrev t′ : Summary
   t′ = record {
     count = t .count + 1;

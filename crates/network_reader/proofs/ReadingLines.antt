@@ -6,6 +6,7 @@ use Prim.Native.Nat.{ℕ, suc, _+_, _-_, _≤_, _<_}
 use native.Mathlib.Omega.{arith}
 use native.Mathlib.Numerals.{add-one}
 use lib.ListN.{length, take, drop, drop-of-length-le, length-drop}
+use Rattle.model.specs.Limits.{maxLen}
 use Rattle.model.specs.Result.{Result, ok, refused, andThen}
 use Rattle.model.specs.Text.{Bytes, parts, lineEnd}
 use Rattle.model.specs.NetworkText.{Draft, noLines, lineOf, addLine, atEnd, readLines}
@@ -54,53 +55,53 @@ went-on D (refused a b) r f q = absurd (let z : Nothing ≡ Refused a b = sym q 
 
 module _ (t : Bytes) (d : Draft) (n at end : ℕ) (e : IsEnd lineEnd t at end) where
   abbrev Rest : Result (ℕ × Draft)
-  Rest = readLines d n (parts lineEnd (drop at t))
+  Rest = readLines maxLen d n (parts lineEnd (drop at t))
 
   -- the last line is not ended
   pub unended : at < length t → end ≡ length t → Rest ≡ refused 1 n
   unfolding readLines
-  unended l q = ap (readLines d n) (rest-alone lineEnd t at end e q) ∙ go (drop at t) (omega (arith, length-drop at t))
+  unended l q = ap (readLines maxLen d n) (rest-alone lineEnd t at end e q) ∙ go (drop at t) (omega (arith, length-drop at t))
     where
       go : (s : Bytes) → 0 < length s → atEnd {A = ℕ × Draft} (n, d) 1 s n ≡ refused 1 n
       go [] h = absurd (omega arith)
       go (b ∷ bs) h = refl
 
-  ended : end < length t → Rest ≡ andThen (addLine d n (lineOf (take (end - at) (drop at t)))) (λ x. readLines x (suc n) (parts lineEnd (drop (end + 1) t)))
+  ended : end < length t → Rest ≡ andThen (addLine maxLen d n (lineOf (take (end - at) (drop at t)))) (λ x. readLines maxLen x (suc n) (parts lineEnd (drop (end + 1) t)))
   unfolding readLines
   ended l =
       let m = parts-more lineEnd (drop (end + 1) t) in
-      ap (readLines d n) (rest-ended lineEnd t at end e l ∙ ap (λ (x : List Bytes). take (end - at) (drop at t) ∷ x) (m .2))
-      ∙ ap (λ (x : List Bytes). andThen (addLine d n (lineOf (take (end - at) (drop at t)))) (λ y. readLines y (suc n) x)) (sym (m .2))
+      ap (readLines maxLen d n) (rest-ended lineEnd t at end e l ∙ ap (λ (x : List Bytes). take (end - at) (drop at t) ∷ x) (m .2))
+      ∙ ap (λ (x : List Bytes). andThen (addLine maxLen d n (lineOf (take (end - at) (drop at t)))) (λ y. readLines maxLen y (suc n) x)) (sym (m .2))
 
-  pub line-refused : end < length t → (number place : ℕ) → addLine d n (lineOf (take (end - at) (drop at t))) ≡ refused number place → Rest ≡ refused number place
-  line-refused l number place q = ended l ∙ ap (λ (x : Result Draft). andThen x (λ y. readLines y (suc n) (parts lineEnd (drop (end + 1) t)))) q
+  pub line-refused : end < length t → (number place : ℕ) → addLine maxLen d n (lineOf (take (end - at) (drop at t))) ≡ refused number place → Rest ≡ refused number place
+  line-refused l number place q = ended l ∙ ap (λ (x : Result Draft). andThen x (λ y. readLines maxLen y (suc n) (parts lineEnd (drop (end + 1) t)))) q
 
-  pub line-read : end < length t → (x : Draft) → addLine d n (lineOf (take (end - at) (drop at t))) ≡ ok x → Rest ≡ readLines x (n + 1) (parts lineEnd (drop (end + 1) t))
+  pub line-read : end < length t → (x : Draft) → addLine maxLen d n (lineOf (take (end - at) (drop at t))) ≡ ok x → Rest ≡ readLines maxLen x (n + 1) (parts lineEnd (drop (end + 1) t))
   line-read l x q =
-      ended l ∙ ap (λ (y : Result Draft). andThen y (λ z. readLines z (suc n) (parts lineEnd (drop (end + 1) t)))) q
-      ∙ ap (λ (k : ℕ). readLines x k (parts lineEnd (drop (end + 1) t))) (sym (add-one n))
+      ended l ∙ ap (λ (y : Result Draft). andThen y (λ z. readLines maxLen z (suc n) (parts lineEnd (drop (end + 1) t)))) q
+      ∙ ap (λ (k : ℕ). readLines maxLen x k (parts lineEnd (drop (end + 1) t))) (sym (add-one n))
 
 -- no line is left
-pub no-line-left : (t : Bytes) (d : Draft) (n at : ℕ) → length t ≤ at → readLines d n (parts lineEnd (drop at t)) ≡ ok (n, d)
+pub no-line-left : (t : Bytes) (d : Draft) (n at : ℕ) → length t ≤ at → readLines maxLen d n (parts lineEnd (drop at t)) ≡ ok (n, d)
 unfolding readLines parts
-no-line-left t d n at l = ap (λ (x : Bytes). readLines d n (parts lineEnd x)) (drop-of-length-le t l)
+no-line-left t d n at l = ap (λ (x : Bytes). readLines maxLen d n (parts lineEnd x)) (drop-of-length-le t l)
 
 -- ---- before line n, from byte `at` on
 
 pub record Standing (t : Bytes) (a : Arrays) (y : Summary) (at n : ℕ) : Type 0 where
   pub draft : Draft
   pub represented : Represents a y draft n
-  pub rest : readLines noLines 1 (parts lineEnd t) ≡ readLines draft n (parts lineEnd (drop at t))
+  pub rest : readLines maxLen noLines 1 (parts lineEnd t) ≡ readLines maxLen draft n (parts lineEnd (drop at t))
 
 pub standing-start : (t : Bytes) {a : Arrays} {y : Summary} → Represents a y noLines 1 → Standing t a y 0 1
 standing-start t w = record { draft = noLines; represented = w; rest = refl }
 
 pub lines-refused : (t : Bytes) (a : Arrays) (r : Lines) (number place : ℕ)
-    → readLines noLines 1 (parts lineEnd t) ≡ refused number place → r .refusal ≡ Refused number place → LinesRead t r a
+    → readLines maxLen noLines 1 (parts lineEnd t) ≡ refused number place → r .refusal ≡ Refused number place → LinesRead t r a
 lines-refused t a r number place q e = subst (λ (x : Result (ℕ × Draft)). LinesAre a x r) (sym q) e
 
 module _ {t : Bytes} {a : Arrays} {y : Summary} {at n : ℕ} (s : Standing t a y at n) where
-  pub standing-unended : (end : ℕ) → IsEnd lineEnd t at end → at < length t → end ≡ length t → readLines noLines 1 (parts lineEnd t) ≡ refused 1 n
+  pub standing-unended : (end : ℕ) → IsEnd lineEnd t at end → at < length t → end ≡ length t → readLines maxLen noLines 1 (parts lineEnd t) ≡ refused 1 n
   standing-unended end e l q = s .rest ∙ unended t (s .draft) n at end e l q
 
   pub standing-end : length t ≤ at → (r : Lines) → r .refusal ≡ Nothing → r .summary ≡ y → r .next ≡ n → LinesRead t r a
@@ -114,9 +115,9 @@ module _ {t : Bytes} {a : Arrays} {y : Summary} {at n : ℕ} (s : Standing t a y
     Next d = Represents b (r .summary) d (suc n)
 
     abbrev Answer : Result Draft
-    Answer = addLine (s .draft) n (lineOf (take (end - at) (drop at t)))
+    Answer = addLine maxLen (s .draft) n (lineOf (take (end - at) (drop at t)))
 
-    pub standing-refused : (number place : ℕ) → r .refusal ≡ Refused number place → readLines noLines 1 (parts lineEnd t) ≡ refused number place
+    pub standing-refused : (number place : ℕ) → r .refusal ≡ Refused number place → readLines maxLen noLines 1 (parts lineEnd t) ≡ refused number place
     standing-refused number place q = s .rest ∙ line-refused t (s .draft) n at end e l number place (was-refused Next Answer (r .refusal) number place (f (s .draft) (s .represented)) q)
 
     pub standing-next : r .refusal ≡ Nothing → Standing t b (r .summary) (end + 1) (n + 1)

@@ -8,6 +8,7 @@ use Prim.Native.Nat.{ℕ, zero, suc, _+_, _*_, _≤_, _<_}
 use native.Mathlib.Omega.{arith}
 use lib.ListN.{length, getD, take, replicate, length-replicate}
 use borrow.Author.Tests.{lt-ltb, le-ltb}
+use Rattle.model.specs.Limits.{maxLen}
 use Rattle.model.specs.Result.{Result, ok, refused, refuseIf}
 use Rattle.model.specs.Text.{Bytes, parts, lineEnd}
 use Rattle.model.specs.Network.{Node, Config, Target, at, noNode, Network as ModelNetwork, totalBits, steers, heldOr, startOf}
@@ -86,20 +87,20 @@ reading-refused t r number place e q = record {
 module _ (t : Bytes) where
   pub too-long : 16384 < length t → readNetwork t ≡ refused 3 0
   unfolding readNetwork
-  too-long l = ap (λ (b : Bool). refuseIf b 3 0 (finishOf (readLines noLines 1 (parts lineEnd t)))) (lt-ltb 16384 (length t) l)
+  too-long l = ap (λ (b : Bool). refuseIf b 3 0 (finishOf (readLines maxLen noLines 1 (parts lineEnd t)))) (lt-ltb 16384 (length t) l)
 
   module _ (short : length t ≤ 16384) where
-    of-lines : readNetwork t ≡ finishOf (readLines noLines 1 (parts lineEnd t))
+    of-lines : readNetwork t ≡ finishOf (readLines maxLen noLines 1 (parts lineEnd t))
     unfolding readNetwork
-    of-lines = ap (λ (b : Bool). refuseIf b 3 0 (finishOf (readLines noLines 1 (parts lineEnd t)))) (le-ltb 16384 (length t) short)
+    of-lines = ap (λ (b : Bool). refuseIf b 3 0 (finishOf (readLines maxLen noLines 1 (parts lineEnd t)))) (le-ltb 16384 (length t) short)
 
-    module _ (u : Uncounted) (r : Ending) (ends : EndsAs u (finishOf (readLines noLines 1 (parts lineEnd t))) r) where
+    module _ (u : Uncounted) (r : Ending) (ends : EndsAs u (finishOf (readLines maxLen noLines 1 (parts lineEnd t))) r) where
       pub ends-refused : (number place : ℕ) → r ≡ EndRefused number place → readNetwork t ≡ refused number place
-      ends-refused number place e = of-lines ∙ subst (EndsAs u (finishOf (readLines noLines 1 (parts lineEnd t)))) e ends
+      ends-refused number place e = of-lines ∙ subst (EndsAs u (finishOf (readLines maxLen noLines 1 (parts lineEnd t)))) e ends
 
       pub ends-recorded : (count len : ℕ) → r ≡ Recorded count len → IsReading t record { verdict = Accepted; network = recordOf u count len }
       ends-recorded count len e =
-          let f = subst (EndsAs u (finishOf (readLines noLines 1 (parts lineEnd t)))) e ends in
+          let f = subst (EndsAs u (finishOf (readLines maxLen noLines 1 (parts lineEnd t)))) e ends in
           record { reads = sym (of-lines ∙ f .0); filled = f .1 }
 
 -- ---- behind the lines

@@ -5,7 +5,7 @@ use mathlib.Core.Bool.{true}
 use mathlib.Core.List.{List, []}
 use Prim.Native.Nat.{ℕ, suc, _≤_, _<_}
 use lib.ListN.{length, getD, replicate}
-use Rattle.model.specs.Limits.{maxNodes}
+use Rattle.model.specs.Limits.{maxNodes, maxLen}
 use Rattle.model.specs.Result.{Result, ok, refused, andThen}
 use Rattle.model.specs.Text.{Bytes, parts, lineEnd}
 use Rattle.model.specs.Network.{Network as ModelNetwork, at, totalBits, steers, steeringBits}
@@ -32,14 +32,14 @@ use Rattle.network_reader.specs.Start.{StartFilled}
 
 -- line n leaves the arrays b
 abbrev pub LineAdded : Arrays → Summary → Bytes → ℕ → Added → Arrays → Type 0
-LineAdded a t line n r b = (d : Draft) → Represents a t d n → Agrees (λ e. Represents b (r .summary) e (suc n)) (addLine d n (lineOf line)) (r .refusal)
+LineAdded a t line n r b = (d : Draft) → Represents a t d n → Agrees (λ e. Represents b (r .summary) e (suc n)) (addLine maxLen d n (lineOf line)) (r .refusal)
 
 abbrev pub LinesAre : Arrays → Result (ℕ × Draft) → Lines → Type 0
 LinesAre a (ok nd) r = (r .refusal ≡ Nothing) × (r .next ≡ nd .0) × Represents a (r .summary) (nd .1) (nd .0)
 LinesAre a (refused number place) r = r .refusal ≡ Refused number place
 
 abbrev pub LinesRead : Bytes → Lines → Arrays → Type 0
-LinesRead t r a = LinesAre a (readLines noLines 1 (parts lineEnd t)) r
+LinesRead t r a = LinesAre a (readLines maxLen noLines 1 (parts lineEnd t)) r
 
 -- ---- the record
 

@@ -1,14 +1,15 @@
 -- `hold_lines::text_length` meets its contract. The loop's invariant: the sum is the bytes of the lines of nodes 1 to s.
 -- Assumes nothing.
-use Prim.Native.Nat.{_*_, _-_, _≤_}
+use Prim.Native.Nat.{_+_, _*_, _-_, _≤_}
 use native.Mathlib.Omega.{arith}
 use borrow.Author.Needs.{needs}
+use Rattle.network_words.specs.Words.{wordWidth}
 use Rattle.hold_lines.proofs.Text.{UpToBytes, bytes-none, bytes-more, bytes-all, words-to}
 use Rattle.hold_lines.proofs.text_length.Statement.{statement}
 use Rattle.hold_lines.proofs.text_length.Tie as tie
 
 abbrev Inv-loop : tie.InvT-loop
-Inv-loop nodes count sum₀ s₀ sum s = (s ≤ count) × (sum ≤ 59 * s) × UpToBytes nodes s sum
+Inv-loop nodes count sum₀ s₀ sum s = (s ≤ count) × (sum ≤ (27 + wordWidth) * s) × UpToBytes nodes s sum
 
 abbrev μ-loop : tie.MeasureT-loop
 μ-loop nodes count sum₀ s₀ sum s = count - s

@@ -7,6 +7,7 @@ use Prim.Native.Nat.{_+_, _≤_, _<_}
 use native.Mathlib.Omega.{arith}
 use lib.ListN.{length}
 use borrow.Author.Needs.{needs}
+use Rattle.model.specs.Limits.{maxLen}
 use Rattle.model.specs.Network.{lenOf, totalBits}
 use Rattle.model.specs.NetworkText.{outside, withNode}
 use Rattle.network_line.specs.Line.{nodeFor, resetIn}
@@ -22,7 +23,7 @@ use Rattle.network_nodes.proofs.add_node.Tie as tie
 abbrev start : tie.Else2 → tie.Start
 start c = c .before .before .before .before
 
-inside : (c : tie.Else2) → outside (start c .args .n) (nodeFor (start c .args .x)) ≡ false
+inside : (c : tie.Else2) → outside maxLen (start c .args .n) (nodeFor (start c .args .x)) ≡ false
 inside c = sym (c .before .is-outside .ensures) ∙ c .if2 .left
 
 unfit : (c : tie.After-is-unfit) → unfitReset (length (start (c .before .before) .args .reset .now)) (lenOf (nodeFor (start (c .before .before) .args .x))) ≡ c .is-unfit .result

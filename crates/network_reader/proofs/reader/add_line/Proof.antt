@@ -2,6 +2,7 @@
 -- Assumes nothing.
 use Rattle.network_reader.proofs.ReadingLines.{line-is, entry-good}
 use Rattle.network_draft.proofs.Representing.{agrees-same, agrees-refused, represented-formed, represented-words}
+use Rattle.model.specs.Limits.{maxLen}
 use Rattle.model.specs.NetworkText.{addLine}
 use mathlib.Core.Path.{ap}
 use borrow.Author.Needs.{needs}
@@ -92,7 +93,7 @@ returns c =
     let at-parse = c .before .before .before in
     let a = at-parse .before .before .args in
     let is = line-is (a .line .now) (at-parse .parse .result) (at-parse .parse .ensures) _ (c .before .enum-told .given .1) in
-    λ d w. agrees-refused _ _ _ 1 (a .n) (ap (addLine d (a .n)) is) (c .answer .ensures .0)
+    λ d w. agrees-refused _ _ _ 1 (a .n) (ap (addLine maxLen d (a .n)) is) (c .answer .ensures .0)
 
 returns-2 : tie.Need-returns-2
 returns-2 c =
@@ -101,7 +102,7 @@ returns-2 c =
     let a = at-parse .before .before .args in
     let is = line-is (a .line .now) (at-parse .parse .result) (at-parse .parse .ensures) _ (at-entry .entry .given .1) in
     let good = entry-good (a .line .now) (at-parse .parse .result) (at-parse .parse .ensures) _ (at-entry .entry .given .1) in
-    λ d w. agrees-same _ _ _ _ (ap (addLine d (a .n)) is) (c .add-node .ensures d (good .1) w)
+    λ d w. agrees-same _ _ _ _ (ap (addLine maxLen d (a .n)) is) (c .add-node .ensures d (good .1) w)
 
 returns-3 : tie.Need-returns-3
 returns-3 c =
@@ -109,7 +110,7 @@ returns-3 c =
     let at-parse = at-entry2 .before .before in
     let a = at-parse .before .before .args in
     let is = line-is (a .line .now) (at-parse .parse .result) (at-parse .parse .ensures) _ (at-entry2 .entry2 .given .1) in
-    λ d w. agrees-same _ _ _ _ (ap (addLine d (a .n)) is) (c .add-out .ensures (a .bits .now) (a .known .now) (a .steering .now) (a .held .now) d w)
+    λ d w. agrees-same _ _ _ _ (ap (addLine maxLen d (a .n)) is) (c .add-out .ensures (a .bits .now) (a .known .now) (a .steering .now) (a .held .now) d w)
 
 returns-4 : tie.Need-returns-4
 returns-4 c =
@@ -120,7 +121,7 @@ returns-4 c =
     let good = entry-good (a .line .now) (at-parse .parse .result) (at-parse .parse .ensures) _ (at-entry3 .entry3 .given .1) in
     λ d w.
     rw (c .answer2 .ensures .0, c .answer2 .ensures .1)
-    (agrees-same _ _ _ _ (ap (addLine d (a .n)) is) (c .before .add-hold .ensures (a .steering .now) d (good .1) w))
+    (agrees-same _ _ _ _ (ap (addLine maxLen d (a .n)) is) (c .before .add-hold .ensures (a .steering .now) d (good .1) w))
 
 returns-5 : tie.Need-returns-5
 returns-5 c =
@@ -129,7 +130,7 @@ returns-5 c =
     let a = at-parse .before .before .args in
     let is = line-is (a .line .now) (at-parse .parse .result) (at-parse .parse .ensures) _ (at-entry4 .entry4 .given .1) in
     let good = entry-good (a .line .now) (at-parse .parse .result) (at-parse .parse .ensures) _ (at-entry4 .entry4 .given .1) in
-    λ d w. agrees-same _ _ _ _ (ap (addLine d (a .n)) is) (c .add-write .ensures (a .bits .now) (a .known .now) (a .held .now) d (good .1) w)
+    λ d w. agrees-same _ _ _ _ (ap (addLine maxLen d (a .n)) is) (c .add-write .ensures (a .bits .now) (a .known .now) (a .held .now) d (good .1) w)
 
 returns-6 : tie.Need-returns-6
 returns-6 c =
@@ -137,7 +138,7 @@ returns-6 c =
     let at-parse = at-entry5 .before .before in
     let a = at-parse .before .before .args in
     let is = line-is (a .line .now) (at-parse .parse .result) (at-parse .parse .ensures) _ (at-entry5 .entry5 .given .1) in
-    λ d w. agrees-same _ _ _ _ (ap (addLine d (a .n)) is) (c .add-read .ensures (a .bits .now) (a .known .now) (a .held .now) d w)
+    λ d w. agrees-same _ _ _ _ (ap (addLine maxLen d (a .n)) is) (c .add-read .ensures (a .bits .now) (a .known .now) (a .held .now) d w)
 
 pub add-line-spec : {M : Type 1} → statement M
 add-line-spec =

@@ -3,6 +3,7 @@
 -- Assumes nothing.
 use native.Mathlib.Omega.{arith}
 use borrow.Author.Needs.{needs}
+use Rattle.model.specs.Limits.{maxLen}
 use Rattle.model.specs.Text.{parts, lineEnd}
 use Rattle.model.specs.NetworkText.{noLines, readLines}
 use Rattle.network_reader.proofs.ReadingNetwork.{represents-none, reading-refused, too-long, ends-refused, ends-recorded}
@@ -24,7 +25,7 @@ finish-requires : tie.Need-finish-requires
 finish-requires c κs =
     let at-read-lines = c .before .before .before .before .before .before in
     let text = at-read-lines .before .before .before .before .before .before .before .before .args .text .now in
-    (readLines noLines 1 (parts lineEnd text), at-read-lines .read-lines .ensures)
+    (readLines maxLen noLines 1 (parts lineEnd text), at-read-lines .read-lines .ensures)
 
 enum-known-ending : tie.Need-enum-known-ending
 enum-known-ending c = search needs
@@ -43,7 +44,7 @@ returns-2 c =
     let at-if1 = at-read-lines .before .before .before .before .before .before in
     let text = at-if1 .before .before .args .text .now in
     reading-refused text _ _ _ (c .rejected2 .ensures)
-    (ends-refused text (at-if1 .if1 .left) _ _ (at-finish .finish .ensures (readLines noLines 1 (parts lineEnd text)) (at-read-lines .read-lines .ensures)) _ _ (at-ending .ending .given .1))
+    (ends-refused text (at-if1 .if1 .left) _ _ (at-finish .finish .ensures (readLines maxLen noLines 1 (parts lineEnd text)) (at-read-lines .read-lines .ensures)) _ _ (at-ending .ending .given .1))
 
 returns-3 : tie.Need-returns-3
 returns-3 c =
@@ -53,7 +54,7 @@ returns-3 c =
     let at-if1 = at-read-lines .before .before .before .before .before .before in
     let text = at-if1 .before .before .args .text .now in
     ends-recorded text (at-if1 .if1 .left) _ _
-    (at-finish .finish .ensures (readLines noLines 1 (parts lineEnd text)) (at-read-lines .read-lines .ensures)) _ _ (at-ending .ending2 .given .1)
+    (at-finish .finish .ensures (readLines maxLen noLines 1 (parts lineEnd text)) (at-read-lines .read-lines .ensures)) _ _ (at-ending .ending2 .given .1)
 
 pub read-network-spec : {M : Type 1} → statement M
 read-network-spec =
