@@ -15,7 +15,7 @@ use Rattle.model.specs.Result.{Result, ok, refused}
 use Rattle.model.specs.Text.{Bytes}
 use Rattle.model.proofs.CallCases.{room-is, row-taken}
 use Rattle.model.proofs.Lists.{not-ok, ok-is, handed}
-use Rattle.carry_model.specs.Carry.{carry, carried, carryText, maxHoldBytes}
+use Rattle.carry_model.specs.Carry.{carry, inRoom, carryText, maxHoldBytes}
 use Rattle.carry_model.specs.CarryDemands.{ShortHolds}
 use Rattle.carry_model.proofs.Carried.{carried-bytes}
 use Rattle.carry_model.proofs.Requests.{carry-marks, used-as-start, start-accepted, carry-buffer, carry-buffer-after, carry-refusals}
@@ -46,9 +46,9 @@ record Lines (n p : Bytes) (count : ℕ) (holds′ : List ℕ) : Type 0 where
 
 lines : (n p : Bytes) (holds : List ℕ) (r : Held) (holds′ : List ℕ) → CarryReturned n p holds r holds′ → (count : ℕ) → r ≡ Written count → Lines n p count holds′
 unfolding carryText
-lines n p holds r holds′ is count e = go (carried n p (length holds)) refl (sym (is .result) ∙ ap heldOf e) (is .left)
+lines n p holds r holds′ is count e = go (inRoom (carry n p) (length holds)) refl (sym (is .result) ∙ ap heldOf e) (is .left)
   where
-    go : (x : Result Bytes) → carried n p (length holds) ≡ x → countOf x ≡ ok count → holds′ ≡ written x holds → Lines n p count holds′
+    go : (x : Result Bytes) → inRoom (carry n p) (length holds) ≡ x → countOf x ≡ ok count → holds′ ≡ written x holds → Lines n p count holds′
     go (refused number place) q c l = absurd (not-ok c)
     go (ok held) q c l =
         let h = handed (carry n p) (ifRoom (length holds)) held q in

@@ -12,11 +12,14 @@ pub fn carry(network: &[u8], plan: &[u8], holds: &mut [u8]) -> Held
     let marked = mark_leaving(network, plan);
     let mark = marked.mark;
     let verdict = mark.verdict;
-    let nodes = marked.nodes;
-    let bits = marked.bits;
-    let known = marked.known;
     match verdict {
         Verdict::Refused(number, place) => Held::Refused(number, place),
-        Verdict::Pass(_, _) => write_holds(&nodes, &bits, &known, marked.count, holds),
+        Verdict::Pass(_, _) => write_holds(
+            &marked.nodes,
+            &marked.bits,
+            &marked.known,
+            marked.count,
+            holds,
+        ),
     }
 }

@@ -12,7 +12,7 @@ use Rattle.model.specs.Calls.{written, countOf, ifRoom}
 use Rattle.model.specs.Printed.{number, line, printed}
 use Rattle.model.specs.Result.{Result, ok, refused, andThen}
 use Rattle.model.specs.Text.{Bytes}
-use Rattle.carry_model.specs.Carry.{carry, carryProgram, carried, carryText}
+use Rattle.carry_model.specs.Carry.{carry, carryProgram, inRoom, carryText}
 use Rattle.carry_model.proofs.Carried.{carried-bytes}
 use Rattle.plan_text.specs.Writing.{writeAt}
 use Rattle.hold_lines.specs.declared.Held.{Held}
@@ -25,7 +25,7 @@ use Rattle.program_text.proofs.CallShown.{call-written, call-refused}
 module _ (n p : Bytes) (out : List ℕ) (room : length out ≡ 5280) (a : Held) (out′ : List ℕ) (is : CarryReturned n p out a out′) where
   -- the call's result
   abbrev result : Result Bytes
-  result = carried n p (length out)
+  result = inRoom (carry n p) (length out)
 
   shows : carryProgram n p ≡ printed (λ text. text) result
   unfolding carryProgram

@@ -1,13 +1,13 @@
--- Every promise of document 02's Change 3, with its proof.
+-- Every promise of document 02's Change 3, and of Change 4 what it says of Change 3, with its proof.
 -- Assumes nothing.
 use Rattle.model.specs.Network.{Network}
 use Rattle.model.specs.Plan.{Plan}
 use Rattle.model.specs.Text.{bytes}
-use Rattle.carry_model.specs.CarryDemands.{CarryBufferKept, CarryBufferWritten, CarryListed, CarryStatus}
+use Rattle.carry_model.specs.CarryDemands.{CarryBufferKept, CarryBufferWritten, CarryListed, CarryEarlier, CarryStatus}
 use Rattle.carry_model.specs.Continued.{CarryMarks, UsedAsStart, StartAccepted, TargetsAccepted, JoinedPlans, PassInTurn, JoinedTexts}
 use Rattle.carry_model.specs.CarryRows.{AllCarried, readA, planReadA, openA, carryRows}
 use Rattle.carry_model.proofs.Carried.{carried-as-marked}
-use Rattle.carry_model.proofs.CarryCall.{carry-buffer-kept, carry-buffer-written, carry-listed}
+use Rattle.carry_model.proofs.CarryCall.{carry-buffer-kept, carry-buffer-written, carry-listed, carry-earlier}
 use Rattle.carry_model.proofs.JoinedPlans.{plans-joined}
 use Rattle.carry_model.proofs.JoinedTexts.{texts-joined}
 use Rattle.carry_model.proofs.NextAccepted.{next-accepted, targets-behind}
@@ -51,6 +51,11 @@ carry-buffer-after = carry-buffer-written
 
 pub carry-refusals : CarryListed
 carry-refusals = carry-listed
+
+-- ---- Change 4
+
+pub earlier-carried : CarryEarlier
+earlier-carried = carry-earlier
 
 -- ---- the exit status
 

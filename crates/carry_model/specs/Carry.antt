@@ -45,9 +45,12 @@ maxHoldBytes = 5280
 abbrev pub leftBy : Network → Plan → Config
 leftBy net plan = configAfter net (net .start) plan
 
--- of a network text and a plan text
+-- of a network text as it was read, and a plan text
+abbrev pub carryRead : Result Network → Bytes → Result Bytes
+carryRead r p = andThen r (λ net. andThen (readPlan p) (λ plan. andThen (markPlan net plan) (λ pass. ok (configText net (leftBy net plan)))))
+
 unfoldable pub carry : Bytes → Bytes → Result Bytes
-carry n p = andThen (readNetwork n) (λ net. andThen (readPlan p) (λ plan. andThen (markPlan net plan) (λ pass. ok (configText net (leftBy net plan)))))
+carry n p = carryRead (readNetwork n) p
 
 unfoldable pub carryProgram : Bytes → Bytes → Bytes
 carryProgram n p = printed (λ text. text) (carry n p)
@@ -55,13 +58,16 @@ carryProgram n p = printed (λ text. text) (carry n p)
 -- ---- the call: network text, plan text, buffer for the `hold` lines
 
 -- the lines, for a buffer of this length
-abbrev pub carried : Bytes → Bytes → ℕ → Result Bytes
-carried n p room = andThen (carry n p) (ifRoom room)
+abbrev pub inRoom : Result Bytes → ℕ → Result Bytes
+inRoom lines room = andThen lines (ifRoom room)
 
 pub record CarryAnswer : Type 0 where
   -- bytes written
   pub result : Result ℕ
   pub holds : List ℕ
 
+abbrev pub carryAnswer : Result Bytes → List ℕ → CarryAnswer
+carryAnswer lines holds = record { result = countOf (inRoom lines (length holds)); holds = written (inRoom lines (length holds)) holds }
+
 unfoldable pub carryText : Bytes → Bytes → List ℕ → CarryAnswer
-carryText n p holds = record { result = countOf (carried n p (length holds)); holds = written (carried n p (length holds)) holds }
+carryText n p holds = carryAnswer (carry n p) holds

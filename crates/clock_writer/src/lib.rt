@@ -82,7 +82,7 @@ pub fn write_tms(tms: &mut [u8], at: usize, n: usize) -> usize
         return plan_text::put(tms, at, b"10110");
     }
     let shift = plan_text::put(tms, at, b"100");
-    let last = plan_text::put_zeros(tms, shift, n - 1);
+    let last = plan_text::put_repeated(tms, shift, b'0', n - 1);
     plan_text::put(tms, last, b"110")
 }
 

@@ -1,5 +1,5 @@
-// drawn: what the programs print for the networks of document 01, "Drawn networks", each behind a title line. Each part
-// tells whether it is written whole; nothing is written behind one that is not.
+// drawn: what the programs print for the networks of document 01, "Drawn networks", each behind a title line, with the greatest LEN of
+// document 02, Change 4. Each part tells whether it is written whole; nothing is written behind one that is not.
 use program_io::finish::finish;
 use program_io::line::add;
 use program_io::line::end;
@@ -107,7 +107,8 @@ fn edges() -> bool {
         && plan(b"out 0", b"out\t0\n")
         && mark(b"out 0, the empty plan", b"out\t0\n", b"")
         && read(b"LEN 32", b"seg\t0\t32\ts\nout\t1\n")
-        && refuse(b"LEN 33", b"seg\t0\t33\ts\nout\t1\n")
+        && read(b"LEN 64", b"seg\t0\t64\ts\nout\t1\n")
+        && refuse(b"LEN 65", b"seg\t0\t65\ts\nout\t1\n")
 }
 
 // Lines of no bits, each of five bytes.

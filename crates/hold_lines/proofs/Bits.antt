@@ -1,17 +1,20 @@
 -- Laws of the bytes of a segment's bits, written from the highest bit down.
 -- Assumes nothing.
-use mathlib.Core.Path.{_≡_, refl, ap, _∙_}
+use mathlib.Core.Path.{_≡_, refl, sym, ap, _∙_}
 use mathlib.Core.Bool.{Bool, true, false, cond}
 use mathlib.Core.Option.{none, some}
 use mathlib.Core.List.{List, [], _∷_, _++_, map, map-append, reverse, reverse-cons}
-use Prim.Native.Nat.{ℕ, _+_, _-_, _≤_, _<_}
+use Prim.Native.Nat.{ℕ, zero, suc, _+_, _-_, _≤_, _<_}
+use native.Mathlib.Numerals.{add-one}
 use native.Mathlib.Omega.{arith}
-use lib.ListN.{length, set, length-map, length-reverse}
+use lib.ListN.{length, set, replicate, length-map, length-replicate, length-reverse, replicate-append-replicate}
 use Rattle.model.specs.Network.{tabulate}
 use Rattle.model.specs.Path.{bitValue}
 use Rattle.model.specs.Text.{Bytes, Trit}
 use Rattle.model.proofs.Lists.{length-tabulate, tabulate-step, tabulate-none, tabulate-whole}
 use Rattle.carry_model.specs.Carry.{tritByte}
+use Rattle.network_words.specs.Words.{tritsOf}
+use Rattle.network_words.proofs.WordLaws.{trits-unknown}
 use Rattle.plan_text.specs.Writing.{writeAt}
 use Rattle.plan_text.proofs.Writing.{write-more}
 use Rattle.program_lines.specs.Puts.{Puts}
@@ -70,3 +73,25 @@ module _ (len : ℕ) (f : ℕ → Trit) where
       let all : downTo len f b ≡ map tritByte (reverse (tabulate f 0 len)) =
       ap (downTo len f) none ∙ ap (λ (l : List Trit). map tritByte (reverse l)) (tabulate-whole f len) in
       record { behind = omega (arith, p, down-length b, ap length all); holds = e ∙ ap (λ (l : Bytes). writeAt at l old) all }
+
+-- ---- no bit is known
+
+reverse-same : {A : Type 0} (n : ℕ) (a : A) → reverse (replicate n a) ≡ replicate n a
+reverse-same zero a = refl
+reverse-same (suc n) a =
+    reverse-cons a (replicate n a) ∙ ap (λ l. l ++ a ∷ []) (reverse-same n a) ∙ replicate-append-replicate n 1 a ∙ ap (λ (k : ℕ). replicate k a) (add-one n)
+
+bytes-same : (n : ℕ) → map tritByte (replicate n none) ≡ replicate n 88
+bytes-same zero = refl
+bytes-same (suc n) = ap (λ (l : Bytes). 88 ∷ l) (bytes-same n)
+
+unknown-bytes : (len w : ℕ) → map tritByte (reverse (tritsOf len w 0)) ≡ replicate len 88
+unknown-bytes len w =
+    ap (λ (l : List Trit). map tritByte (reverse l)) (trits-unknown w len) ∙ ap (λ (l : List Trit). map tritByte l) (reverse-same len none) ∙ bytes-same len
+
+pub puts-unknown : (len w known at r : ℕ) (old new : List ℕ) → known ≡ 0 → r ≡ at + len → new ≡ writeAt at (replicate len 88) old
+    → Puts at (map tritByte (reverse (tritsOf len w known))) old r new
+puts-unknown len w known at r old new none-known p e =
+    let all : replicate len 88 ≡ map tritByte (reverse (tritsOf len w known)) =
+    sym (unknown-bytes len w) ∙ ap (λ (k : ℕ). map tritByte (reverse (tritsOf len w k))) (sym none-known) in
+    record { behind = omega (arith, p, length-replicate {A = ℕ} len 88, ap length all); holds = e ∙ ap (λ (l : Bytes). writeAt at l old) all }

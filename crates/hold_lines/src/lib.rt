@@ -8,6 +8,7 @@ use network_path::layout::segment_len;
 use network_words::Word;
 use network_words::bit_at;
 use plan_text::put;
+use plan_text::put_repeated;
 use program_lines::digit_count;
 use program_lines::put_number;
 ghost use mathlib.Core.Path.{_≡_};
@@ -60,6 +61,18 @@ fn put_bits(out: &mut [u8], at: usize, bits: Word, known: Word, len: usize) -> u
     next
 }
 
+// The same; where no bit is known, one byte is repeated.
+fn put_trits(out: &mut [u8], at: usize, bits: Word, known: Word, len: usize) -> usize
+    requires { ⌜ (len ≤ wordWidth) × (at + len ≤ length (now out)) ⌝ }
+    ensures { λ r. ⌜ Puts at (map tritByte (reverse (tritsOf len bits known))) (now (out .entry)) r (now (out .exit)) ⌝ }
+    ensures { λ r. ⌜ r ≡ at + len ⌝ }
+{
+    if known == 0 {
+        return put_repeated(out, at, b'X', len);
+    }
+    put_bits(out, at, bits, known, len)
+}
+
 // The line of segment s.
 fn put_line(out: &mut [u8], at: usize, s: usize, bits: Word, known: Word, len: usize) -> usize
     requires { ⌜ (len ≤ wordWidth) × (at + (7 + length (number s) + len) ≤ length (now out)) ⌝ }
@@ -68,7 +81,7 @@ fn put_line(out: &mut [u8], at: usize, s: usize, bits: Word, known: Word, len: u
     let number = put(out, at, b"hold\t");
     let number_end = put_number(out, number, s);
     let start = put(out, number_end, b"\t");
-    let end = put_bits(out, start, bits, known, len);
+    let end = put_trits(out, start, bits, known, len);
     put(out, end, b"\n")
 }
 

@@ -1,4 +1,4 @@
--- Laws of the marker: the targets after the operations, and the whole mark.
+-- Laws of the marker: the whole mark by the operations and the targets, and what a passed plan leaves.
 pub mod Verdicts
 pub mod Leaving
 pub mod Demand

@@ -71,16 +71,16 @@ afterLine d (some (out k)) = withOut d k
 afterLine d (some (hold s bs)) = withHold d s bs
 afterLine d (some (target t)) = withTarget d t
 
-pub added : (d e : Draft) (n : ℕ) (o : Option Line) → addLine maxLen d n o ≡ ok e → afterLine d o ≡ e
+pub added-up-to : (most : ℕ) (d e : Draft) (n : ℕ) (o : Option Line) → addLine most d n o ≡ ok e → afterLine d o ≡ e
 unfolding addNode addOut addHold addTarget
-added d e n none g = absurd (not-ok g)
-added d e n (some (node x v)) g =
+added-up-to most d e n none g = absurd (not-ok g)
+added-up-to most d e n (some (node x v)) g =
     let a = passed-test (hasOut d) 4 n _ e g in
-    let b = passed-test (outside maxLen n x) 2 n _ e (a .1) in
+    let b = passed-test (outside most n x) 2 n _ e (a .1) in
     let w = passed-test (badReset x v) 18 n _ e (b .1) in
     let c = passed-test (leb 128 (length (d .nodes))) 3 n _ e (w .1) in
     ok-is (passed-test (ltb 4000 (totalBits (d .nodes) + lenOf x)) 3 n _ e (c .1) .1)
-added d e n (some (out k)) g =
+added-up-to most d e n (some (out k)) g =
     let a = passed-test (hasOut d) 4 n _ e g in
     let b = passed-test (ltb (length (d .nodes)) k) 2 n _ e (a .1) in
     go (firstBad (d .nodes) 1 (d .nodes)) (b .1)
@@ -88,16 +88,19 @@ added d e n (some (out k)) g =
     go : (o : Option ℕ) → outIf d k o ≡ ok e → withOut d k ≡ e
     go none h = ok-is h
     go (some m) h = absurd (not-ok h)
-added d e n (some (hold s bs)) g =
+added-up-to most d e n (some (hold s bs)) g =
     let a = passed-test (not (hasOut d)) 4 n _ e g in
     let b = passed-test (not (fitsBits (d .nodes) s bs)) 6 n _ e (a .1) in
     ok-is (passed-test (isHeld (d .holds) s) 6 n _ e (b .1) .1)
-added d e n (some (target t)) g =
+added-up-to most d e n (some (target t)) g =
     let a = passed-test (not (hasOut d)) 4 n _ e g in
     let b = passed-test (not (fitsTarget (d .nodes) t)) 6 n _ e (a .1) in
     let c = passed-test (isTarget (d .targets) t) 6 n _ e (b .1) in
     let f = passed-test (isSteering (d .nodes) (targetSegment t)) 7 n _ e (c .1) in
     ok-is (passed-test (leb 4 (length (d .targets))) 8 n _ e (f .1) .1)
+
+pub added : (d e : Draft) (n : ℕ) (o : Option Line) → addLine maxLen d n o ≡ ok e → afterLine d o ≡ e
+added = added-up-to maxLen
 
 -- what each of the lines keeps, all of them keep
 pub all-keep : (P : Draft → Type 0) (ls : List Bytes) → ((l : Bytes) → List·Memᴰ l ls → (d : Draft) → P d → P (afterLine d (lineOf l)))

@@ -2,7 +2,7 @@
 -- program gives the same.
 -- Assumes nothing.
 use mathlib.Core.Path.{_≡_, refl, sym, ap, _∙_}
-use mathlib.Core.Bool.{Bool, false, _||_}
+use mathlib.Core.Bool.{Bool, true, false, _||_}
 use mathlib.Core.Option.{Option, none, some}
 use mathlib.Core.List.{List, [], _∷_}
 use Prim.Native.Nat.{ℕ, suc, _≤_}
@@ -11,15 +11,18 @@ use lib.ListN.{length}
 use lib.Dec.{leb, ltb}
 use borrow.Author.Tests.{lt-leb, le-ltb, lt-ltb, ltb-false}
 use Rattle.model.specs.Calls.{checked, planned, searchable, searchEntries, PlanAnswer, planAnswer, makePlan, writeClocks}
+use Rattle.model.specs.Drawn.{A}
 use Rattle.model.specs.Limits.{maxNetworkBytes, maxLen, maxPlanBytes}
-use Rattle.model.specs.LongRegisters.{LenBounded, earlierLen, planIn, planUpTo, EarlierTexts}
+use Rattle.model.specs.LongRegisters.{LenBounded, earlierLen, planIn, planUpTo, EarlierTexts, FirstTexts}
 use Rattle.model.specs.Mark.{markRead, mark}
-use Rattle.model.specs.Network.{Node, segment, multiplexer, Network}
-use Rattle.model.specs.NetworkText.{Reset, Line, node, out, hold, target, lineOf, Draft, hasOut, outside, addNode, addLine, readLines, finish, noLines, readUpTo, readNetwork}
+use Rattle.model.specs.Network.{Node, segment, multiplexer, write, Network, totalBits, isSteering, heldOr, startOf}
+use Rattle.model.specs.NetworkText.{Reset, Line, node, out, hold, target, segLine, decimals, muxLine, numberLine, bitsLine, lineOf, Draft, hasOut, outside, addNode, firstBad, addOut, isTarget, addTarget, addLine, readLines, finish, noLines, readUpTo, readNetwork}
+use Rattle.model.specs.Path.{walkFrom}
 use Rattle.model.specs.Printed.{printed, showNetwork, showPass, readProgram, planProgram, markProgram}
 use Rattle.model.specs.Result.{Result, ok, refused, refuseIf, andThen}
-use Rattle.model.specs.Text.{Bytes, parts, lineEnd}
+use Rattle.model.specs.Text.{Bytes, bytes, parts, lineEnd, digitsFrom, decimal, same, wordOf, bitsFrom}
 use Rattle.model.proofs.Lists.{or-parts, or-right, handed, passed-test}
+use Rattle.model.proofs.OldForm.{accepted-as-before}
 
 -- ---- the bound of LEN
 
@@ -89,3 +92,20 @@ earlier-texts n net e =
       plan-prints = ap (λ (r : Result Network). printed (λ text. text) (planned (andThen r (checked searchEntries)) maxPlanBytes)) same;
       mark-prints = λ p. ap (λ (r : Result Network). printed showPass (markRead r p)) same;
     }
+
+pub first-texts : FirstTexts
+first-texts n net e = let a = accepted-as-before earlierLen n net e in (earlier-texts n net a, same-network n net a ∙ a)
+
+-- ---- a text that `earlier-texts` speaks of: A of document 01
+
+pub earlier-met : (net : Network) × (readUpTo earlierLen (bytes A) ≡ ok net)
+unfolding readLines addTarget isTarget addOut firstBad addNode lineOf bitsLine numberLine muxLine decimals segLine startOf heldOr isSteering totalBits walkFrom bitsFrom wordOf same decimal digitsFrom parts
+earlier-met = (
+  record {
+    nodes = segment 0 4 true ∷ multiplexer 3 0 (0 ∷ 1 ∷ []) ∷ segment 2 1 true ∷ [];
+    out = 3;
+    start = (none ∷ none ∷ none ∷ none ∷ []) ∷ [] ∷ (some false ∷ []) ∷ [];
+    targets = write 1 (false ∷ true ∷ false ∷ true ∷ []) ∷ [];
+  },
+  refl,
+)

@@ -10,15 +10,15 @@ use lib.ListN.{length, drop}
 use lib.Dec.{leb, ltb}
 use borrow.Author.Tests.{ltb-true, ltb-false, lt-leb}
 use Rattle.model.specs.Drawn.{A}
-use Rattle.model.specs.Limits.{maxLen}
+use Rattle.model.specs.Limits.{maxNetworkBytes}
 use Rattle.model.specs.Network.{Held, heldOr, startOf}
-use Rattle.model.specs.NetworkText.{Reset, Line, node, out, hold, target, field, resetField, segLine, lineBy, lineOf, Draft, addNode, addLine, readLines, finish, noLines, readNetwork}
+use Rattle.model.specs.NetworkText.{Reset, Line, node, out, hold, target, field, resetField, segLine, lineBy, lineOf, Draft, addNode, addLine, atEnd, readLines, finish, noLines}
 use Rattle.model.specs.Resets.{segLineWithoutReset, lineByWithoutReset, lineWithoutReset, addLineWithoutReset, readLinesWithoutReset, startWithoutReset, finishWithoutReset, readWithoutReset, OldForm, ReadAsBefore, AcceptedAsBefore}
 use Rattle.model.specs.Result.{Result, ok, refused, refuseIf, andThen}
 use Rattle.model.specs.Text.{Bytes, bytes, bind, same, parts, fields, ended, linesOf, lineEnd, LineWord, Seg, Mux, Out, Hold, Write, Read, Csu, wordOf}
-use Rattle.model.proofs.AddedLines.{ended-read, afterLine, all-keep}
+use Rattle.model.proofs.AddedLines.{afterLine, added-up-to}
 use Rattle.model.proofs.LineForms.{line-form}
-use Rattle.model.proofs.Lists.{eqb-below, and-false-right, true-false, some-same, not-ok, handed, passed-test, every-in}
+use Rattle.model.proofs.Lists.{eqb-below, and-false-right, true-false, some-same, not-ok, ok-is, handed, passed-test, every-in}
 
 -- ---- one line
 
@@ -88,28 +88,28 @@ no-reset l old = line-form NoReset l record {
   of-read = λ s f. tt;
 }
 
-add-before : (d : Draft) (n : ℕ) (o : Option Line) → ((line : Line) → o ≡ some line → NoReset line) → addLine maxLen d n o ≡ addLineWithoutReset d n o
+add-before : (most : ℕ) (d : Draft) (n : ℕ) (o : Option Line) → ((line : Line) → o ≡ some line → NoReset line) → addLine most d n o ≡ addLineWithoutReset most d n o
 unfolding addNode
-add-before d n none f = refl
-add-before d n (some (node x v)) f = ap (addNode maxLen d n x) (f (node x v) refl)
-add-before d n (some (out k)) f = refl
-add-before d n (some (hold s bs)) f = refl
-add-before d n (some (target t)) f = refl
+add-before most d n none f = refl
+add-before most d n (some (node x v)) f = ap (addNode most d n x) (f (node x v) refl)
+add-before most d n (some (out k)) f = refl
+add-before most d n (some (hold s bs)) f = refl
+add-before most d n (some (target t)) f = refl
 
 -- ---- the lines in turn
 
-lines-before : (ls : List Bytes) → ((l : Bytes) → List·Memᴰ l (ended ls) → Old l) → (d : Draft) (n : ℕ) → readLines maxLen d n ls ≡ readLinesWithoutReset d n ls
+lines-before : (most : ℕ) (ls : List Bytes) → ((l : Bytes) → List·Memᴰ l (ended ls) → Old l) → (d : Draft) (n : ℕ) → readLines most d n ls ≡ readLinesWithoutReset most d n ls
 unfolding readLines readLinesWithoutReset
-lines-before [] f d n = refl
-lines-before (l ∷ []) f d n = refl
-lines-before (l ∷ m ∷ ls) f d n =
+lines-before most [] f d n = refl
+lines-before most (l ∷ []) f d n = refl
+lines-before most (l ∷ m ∷ ls) f d n =
     let old : Old l = f l (List·Memᴰ·head refl) in
-    ap (λ (r : Result Draft). andThen r (λ y. readLines maxLen y (suc n) (m ∷ ls))) (add-before d n (lineOf l) (no-reset l old) ∙ ap (addLineWithoutReset d n) (line-before l old))
-    ∙ (λ i. andThen (addLineWithoutReset d n (lineWithoutReset l)) (λ y. lines-before (m ∷ ls) (λ k x. f k (List·Memᴰ·tail x)) y (suc n) i))
+    ap (λ (r : Result Draft). andThen r (λ y. readLines most y (suc n) (m ∷ ls))) (add-before most d n (lineOf l) (no-reset l old) ∙ ap (addLineWithoutReset most d n) (line-before l old))
+    ∙ (λ i. andThen (addLineWithoutReset most d n (lineWithoutReset l)) (λ y. lines-before most (m ∷ ls) (λ k x. f k (List·Memᴰ·tail x)) y (suc n) i))
 
 -- no RESET is kept
-none-kept : (l : Bytes) → Old l → (d : Draft) → d .resets ≡ [] → afterLine d (lineOf l) .resets ≡ []
-none-kept l old d e = go (lineOf l) (no-reset l old)
+none-kept : (most : ℕ) (l : Bytes) → Old l → (d y : Draft) (n : ℕ) → addLine most d n (lineOf l) ≡ ok y → d .resets ≡ [] → y .resets ≡ []
+none-kept most l old d y n g e = sym (ap (λ (x : Draft). x .resets) (added-up-to most d y n (lineOf l) g)) ∙ go (lineOf l) (no-reset l old)
   where
     go : (o : Option Line) → ((line : Line) → o ≡ some line → NoReset line) → afterLine d o .resets ≡ []
     go none f = e
@@ -117,6 +117,19 @@ none-kept l old d e = go (lineOf l) (no-reset l old)
     go (some (out k)) f = e
     go (some (hold s bs)) f = e
     go (some (target t)) f = e
+
+none-read : (most : ℕ) (ls : List Bytes) → ((l : Bytes) → List·Memᴰ l (ended ls) → Old l) → (d : Draft) (n : ℕ) (r : ℕ × Draft) → readLines most d n ls ≡ ok r → d .resets ≡ []
+    → r .1 .resets ≡ []
+unfolding readLines
+none-read most [] f d n r g e = sym (ap (λ (x : ℕ × Draft). x .1 .resets) (ok-is g)) ∙ e
+none-read most (l ∷ []) f d n r g e = last l g
+  where
+    last : (k : Bytes) → atEnd (n, d) 1 k n ≡ ok r → r .1 .resets ≡ []
+    last [] h = sym (ap (λ (x : ℕ × Draft). x .1 .resets) (ok-is h)) ∙ e
+    last (b ∷ bs) h = absurd (not-ok h)
+none-read most (l ∷ m ∷ ls) f d n r g e =
+    let h = handed (addLine most d n (lineOf l)) _ r g in
+    none-read most (m ∷ ls) (λ k x. f k (List·Memᴰ·tail x)) (h .value) (suc n) r (h .then) (none-kept most l (f l (List·Memᴰ·head refl)) d (h .value) n (h .given) e)
 
 finish-before : (n : ℕ) (d : Draft) → d .resets ≡ [] → (o : Option ℕ) → finish n d o ≡ finishWithoutReset n d o
 unfolding startOf startWithoutReset heldOr
@@ -128,14 +141,12 @@ then-same (ok a) f g e = e a refl
 then-same (refused number place) f g e = refl
 
 pub read-as-before : ReadAsBefore
-unfolding readNetwork readWithoutReset
-read-as-before t old =
-    ap (refuseIf (ltb 16384 (length t)) 3 0)
-    (then-same (readLines maxLen noLines 1 (parts lineEnd t)) _ (λ r. finishWithoutReset (r .0) (r .1) (r .1 .feeds)) (λ r e. finish-before (r .0) (r .1) (no-resets r e) (r .1 .feeds))
-    ∙ ap (λ (x : Result (ℕ × Draft)). andThen x (λ r. finishWithoutReset (r .0) (r .1) (r .1 .feeds))) (lines-before (parts lineEnd t) old noLines 1))
-  where
-    no-resets : (r : ℕ × Draft) → readLines maxLen noLines 1 (parts lineEnd t) ≡ ok r → r .1 .resets ≡ []
-    no-resets r e = all-keep (λ (d : Draft). d .resets ≡ []) (linesOf t) (λ l m. none-kept l (old l m)) noLines 1 r (ended-read (parts lineEnd t) noLines 1 r e) refl
+unfolding readWithoutReset
+read-as-before most t old =
+    ap (refuseIf (ltb maxNetworkBytes (length t)) 3 0)
+    (then-same (readLines most noLines 1 (parts lineEnd t)) _ (λ r. finishWithoutReset (r .0) (r .1) (r .1 .feeds))
+    (λ r e. finish-before (r .0) (r .1) (none-read most (parts lineEnd t) old noLines 1 r e refl) (r .1 .feeds))
+    ∙ ap (λ (x : Result (ℕ × Draft)). andThen x (λ r. finishWithoutReset (r .0) (r .1) (r .1 .feeds))) (lines-before most (parts lineEnd t) old noLines 1))
 
 -- ---- so an accepted text stays accepted
 
@@ -143,23 +154,23 @@ five-none : (l : Bytes) → wordOf (field (fields l) 0) ≡ some Seg → length 
 unfolding lineWithoutReset segLineWithoutReset
 five-none l w h = rw (w, h)
 
-lines-old : (ls : List Bytes) (d : Draft) (n : ℕ) (r : ℕ × Draft) → readLinesWithoutReset d n ls ≡ ok r → (l : Bytes) → List·Memᴰ l (ended ls) → Old l
+lines-old : (most : ℕ) (ls : List Bytes) (d : Draft) (n : ℕ) (r : ℕ × Draft) → readLinesWithoutReset most d n ls ≡ ok r → (l : Bytes) → List·Memᴰ l (ended ls) → Old l
 unfolding readLinesWithoutReset
-lines-old [] d n r e l m = absurd (List·Memᴰ·not-nil m)
-lines-old (k ∷ []) d n r e l m = absurd (List·Memᴰ·not-nil m)
-lines-old (k ∷ j ∷ ls) d n r e l (List·Memᴰ·head q) = λ w h.
-    let g = handed (addLineWithoutReset d n (lineWithoutReset k)) _ r e .given in
-    not-ok (ap (addLineWithoutReset d n) (sym (ap lineWithoutReset (sym q) ∙ five-none l w h)) ∙ g)
-lines-old (k ∷ j ∷ ls) d n r e l (List·Memᴰ·tail m) =
-    let g = handed (addLineWithoutReset d n (lineWithoutReset k)) _ r e in
-    lines-old (j ∷ ls) (g .value) (suc n) r (g .then) l m
+lines-old most [] d n r e l m = absurd (List·Memᴰ·not-nil m)
+lines-old most (k ∷ []) d n r e l m = absurd (List·Memᴰ·not-nil m)
+lines-old most (k ∷ j ∷ ls) d n r e l (List·Memᴰ·head q) = λ w h.
+    let g = handed (addLineWithoutReset most d n (lineWithoutReset k)) _ r e .given in
+    not-ok (ap (addLineWithoutReset most d n) (sym (ap lineWithoutReset (sym q) ∙ five-none l w h)) ∙ g)
+lines-old most (k ∷ j ∷ ls) d n r e l (List·Memᴰ·tail m) =
+    let g = handed (addLineWithoutReset most d n (lineWithoutReset k)) _ r e in
+    lines-old most (j ∷ ls) (g .value) (suc n) r (g .then) l m
 
 pub accepted-as-before : AcceptedAsBefore
 unfolding readWithoutReset
-accepted-as-before t net e =
-    let a = passed-test (ltb 16384 (length t)) 3 0 _ net e in
-    let g = handed (readLinesWithoutReset noLines 1 (parts lineEnd t)) _ net (a .1) in
-    read-as-before t (λ l m. lines-old (parts lineEnd t) noLines 1 (g .value) (g .given) l m) ∙ e
+accepted-as-before most t net e =
+    let a = passed-test (ltb maxNetworkBytes (length t)) 3 0 _ net e in
+    let g = handed (readLinesWithoutReset most noLines 1 (parts lineEnd t)) _ net (a .1) in
+    read-as-before most t (λ l m. lines-old most (parts lineEnd t) noLines 1 (g .value) (g .given) l m) ∙ e
 
 -- ---- a text that `read-as-before` speaks of: A of document 01
 

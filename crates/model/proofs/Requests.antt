@@ -1,12 +1,20 @@
--- Every promise of document 02's Change 1, with its proof.
+-- Every promise of document 02's Changes 1 and 4, with its proof.
 -- Assumes nothing.
-use Rattle.model.specs.Drawn.{A, AllPrinted, resetRows}
+use mathlib.Core.Path.{_≡_}
+use Rattle.model.specs.Drawn.{A, AllPrinted, resetRows, longRows}
+use Rattle.model.specs.LongRegisters.{LenBounded, earlierLen, EarlierTexts, FirstTexts}
+use Rattle.model.specs.Network.{Network}
+use Rattle.model.specs.NetworkText.{readUpTo}
 use Rattle.model.specs.Resets.{ResetsRead, ResetStarts, OldForm, ReadAsBefore, AcceptedAsBefore, ResetRefused}
+use Rattle.model.specs.Result.{ok}
 use Rattle.model.specs.Text.{bytes}
 use Rattle.model.proofs.Drawn.{rows-hold}
+use Rattle.model.proofs.EarlierTexts.{len-bounded, earlier-texts, first-texts, earlier-met}
 use Rattle.model.proofs.OldForm.{read-as-before, accepted-as-before, old-form-met}
 use Rattle.model.proofs.ResetForms.{resets-read, reset-refused}
 use Rattle.model.proofs.ResetStarts.{reset-starts}
+
+-- ---- Change 1, "Reset bits in the segment line"
 
 pub reset-fields : ResetsRead
 reset-fields = resets-read
@@ -29,3 +37,21 @@ reset-18 = reset-refused
 
 pub reset-rows : AllPrinted resetRows
 reset-rows = rows-hold .1
+
+-- ---- Change 4, "Registers up to 64 bits"
+
+pub len-up-to : LenBounded
+len-up-to = len-bounded
+
+pub earlier : EarlierTexts
+earlier = earlier-texts
+
+pub first : FirstTexts
+first = first-texts
+
+-- the hypothesis of `earlier` can be met
+pub earlier-of-A : (net : Network) × (readUpTo earlierLen (bytes A) ≡ ok net)
+earlier-of-A = earlier-met
+
+pub long-rows : AllPrinted longRows
+long-rows = rows-hold .2

@@ -1,4 +1,4 @@
--- The limits of document 01 by name, and the sizes that follow from them. Each name stands for its number, also in proofs.
+-- The limits of document 01 by name, with what document 02 changes of them, and the sizes that follow from them. Each name stands for its number, also in proofs.
 -- Assumes nothing.
 use Prim.Native.Nat.{ℕ}
 
@@ -15,9 +15,9 @@ maxTargets = 4
 abbrev pub maxNetworkBytes : ℕ
 maxNetworkBytes = 16384
 
--- "a segment of 1 to 32 bits"
+-- document 02, Change 4: "LEN may be 64, and 65 is refused"
 abbrev pub maxLen : ℕ
-maxLen = 32
+maxLen = 64
 
 -- "Plans: 16 operations, 64,080 bytes."; 64,080 = 16 × 4,005, a line being `csu`, a tab, at most 4,000 bits and byte 10
 abbrev pub maxOperations : ℕ

@@ -12,6 +12,7 @@ use Rattle.model.specs.Result.{Result, ok, refused, andThen}
 use Rattle.model.specs.Text.{Bytes}
 use Rattle.model.specs.Network.{segment, Network}
 use Rattle.model.specs.NetworkText.{Reset, node, Draft, hasOut, outside, addLine, readUpTo, readNetwork}
+use Rattle.model.specs.Resets.{readWithoutReset}
 use Rattle.model.specs.Mark.{Pass, markRead, mark}
 use Rattle.model.specs.Calls.{checked, planned, searchEntries, PlanAnswer, planAnswer, makePlan, writeClocks}
 use Rattle.model.specs.Printed.{printed, showNetwork, showPass, readProgram, planProgram, markProgram}
@@ -62,3 +63,7 @@ pub record AsEarlier (n : Bytes) : Type 0 where
 
 abbrev pub EarlierTexts : Type 0
 EarlierTexts = (n : Bytes) (net : Network) → readUpTo earlierLen n ≡ ok net → AsEarlier n
+
+-- and so of the texts that document 01's reader accepted, before Change 1 too
+abbrev pub FirstTexts : Type 0
+FirstTexts = (n : Bytes) (net : Network) → readWithoutReset earlierLen n ≡ ok net → AsEarlier n × (readNetwork n ≡ ok net)

@@ -14,7 +14,7 @@ use Rattle.model.specs.Result.{Result, ok, refused, refuseIf, andThen}
 use Rattle.model.specs.Text.{Bytes, bind, parts, fields, linesOf, lineEnd, decimal, LineWord, Seg, Mux, Out, Hold, Write, Read, Csu, wordOf, Trit, trit, bitsField}
 use Rattle.model.specs.Network.{Node, segment, Config, Network, at, lenOf, totalBits, mapFrom, isSteering, Held, heldOr, startBit, silentBits}
 use Rattle.model.specs.Path.{walk}
-use Rattle.model.specs.NetworkText.{Line, node, out, hold, target, field, ifFields, kind, lineBy, lineOf, Draft, hasOut, outside, withNode, addLine, atEnd, ifStarts, noLines, readNetwork}
+use Rattle.model.specs.NetworkText.{Line, node, out, hold, target, field, ifFields, kind, lineBy, lineOf, Draft, hasOut, outside, withNode, addLine, atEnd, ifStarts, noLines, readUpTo, readNetwork}
 
 -- ---- "A `seg` line gets a last field RESET, LEN characters of `0`, `1` or `X`, highest bit first"
 
@@ -46,7 +46,7 @@ ResetStarts = (t : Bytes) (net : Network) → readNetwork t ≡ ok net → Start
 
 -- ---- "the old form is still read as before"
 
--- the reader without RESET: `seg FROM LEN KIND` alone, no 18, and a start of 0 or X and `hold` lines
+-- the reader without RESET: `seg FROM LEN KIND` alone, no 18, and a start of 0 or X and `hold` lines; with `most` as the greatest LEN
 unfoldable pub segLineWithoutReset : List Bytes → Option Line
 segLineWithoutReset fs = ifFields 4 fs
     (bind (decimal (field fs 1)) (λ from. bind (decimal (field fs 2)) (λ len. bind (kind (field fs 3)) (λ shadow. some (node (segment from len shadow) none)))))
@@ -64,25 +64,25 @@ unfoldable pub lineWithoutReset : Bytes → Option Line
 lineWithoutReset l = bind (wordOf (field (fields l) 0)) (lineByWithoutReset (fields l))
 
 -- 4, 2, 3
-abbrev pub addNodeWithoutReset : Draft → ℕ → Node → Result Draft
-addNodeWithoutReset d n x =
+abbrev pub addNodeWithoutReset : ℕ → Draft → ℕ → Node → Result Draft
+addNodeWithoutReset most d n x =
     refuseIf (hasOut d) refusal.order n
-    (refuseIf (outside maxLen n x) refusal.bounds n
+    (refuseIf (outside most n x) refusal.bounds n
     (refuseIf (leb maxNodes (length (d .nodes))) refusal.size n
     (refuseIf (ltb maxBits (totalBits (d .nodes) + lenOf x)) refusal.size n
     (ok (withNode d x none)))))
 
-abbrev pub addLineWithoutReset : Draft → ℕ → Option Line → Result Draft
-addLineWithoutReset d n none = addLine maxLen d n none
-addLineWithoutReset d n (some (node x v)) = addNodeWithoutReset d n x
-addLineWithoutReset d n (some (out k)) = addLine maxLen d n (some (out k))
-addLineWithoutReset d n (some (hold s bs)) = addLine maxLen d n (some (hold s bs))
-addLineWithoutReset d n (some (target t)) = addLine maxLen d n (some (target t))
+abbrev pub addLineWithoutReset : ℕ → Draft → ℕ → Option Line → Result Draft
+addLineWithoutReset most d n none = addLine most d n none
+addLineWithoutReset most d n (some (node x v)) = addNodeWithoutReset most d n x
+addLineWithoutReset most d n (some (out k)) = addLine most d n (some (out k))
+addLineWithoutReset most d n (some (hold s bs)) = addLine most d n (some (hold s bs))
+addLineWithoutReset most d n (some (target t)) = addLine most d n (some (target t))
 
-unfoldable pub readLinesWithoutReset : Draft → ℕ → List Bytes → Result (ℕ × Draft)
-readLinesWithoutReset d n [] = ok (n, d)
-readLinesWithoutReset d n (l ∷ []) = atEnd (n, d) refusal.form l n
-readLinesWithoutReset d n (l ∷ m ∷ ls) = andThen (addLineWithoutReset d n (lineWithoutReset l)) (λ e. readLinesWithoutReset e (suc n) (m ∷ ls))
+unfoldable pub readLinesWithoutReset : ℕ → Draft → ℕ → List Bytes → Result (ℕ × Draft)
+readLinesWithoutReset most d n [] = ok (n, d)
+readLinesWithoutReset most d n (l ∷ []) = atEnd (n, d) refusal.form l n
+readLinesWithoutReset most d n (l ∷ m ∷ ls) = andThen (addLineWithoutReset most d n (lineWithoutReset l)) (λ e. readLinesWithoutReset most e (suc n) (m ∷ ls))
 
 unfoldable pub startWithoutReset : List Node → List Held → Config
 startWithoutReset ns hs = mapFrom 1 (λ s n. heldOr (replicate (lenOf n) (startBit (isSteering ns s))) hs s) ns
@@ -94,10 +94,10 @@ abbrev pub finishWithoutReset : ℕ → Draft → Option ℕ → Result Network
 finishWithoutReset n d none = refused refusal.order n
 finishWithoutReset n d (some k) = ifStarts (networkWithoutReset d k) (walk (networkWithoutReset d k) (networkWithoutReset d k .start))
 
-unfoldable pub readWithoutReset : Bytes → Result Network
-readWithoutReset t =
+unfoldable pub readWithoutReset : ℕ → Bytes → Result Network
+readWithoutReset most t =
     refuseIf (ltb maxNetworkBytes (length t)) refusal.size 0
-    (andThen (readLinesWithoutReset noLines 1 (parts lineEnd t)) (λ r. finishWithoutReset (r .0) (r .1) (r .1 .feeds)))
+    (andThen (readLinesWithoutReset most noLines 1 (parts lineEnd t)) (λ r. finishWithoutReset (r .0) (r .1) (r .1 .feeds)))
 
 -- no line that opens with `seg` has five fields
 abbrev pub OldForm : Bytes → Type 0
@@ -105,11 +105,11 @@ OldForm t = (l : Bytes) → List·Memᴰ l (linesOf t) → wordOf (field (fields
 
 -- the same network, or the same refusal at the same place
 abbrev pub ReadAsBefore : Type 0
-ReadAsBefore = (t : Bytes) → OldForm t → readNetwork t ≡ readWithoutReset t
+ReadAsBefore = (most : ℕ) (t : Bytes) → OldForm t → readUpTo most t ≡ readWithoutReset most t
 
 -- so every text that was accepted is accepted, as the same network
 abbrev pub AcceptedAsBefore : Type 0
-AcceptedAsBefore = (t : Bytes) (net : Network) → readWithoutReset t ≡ ok net → readNetwork t ≡ ok net
+AcceptedAsBefore = (most : ℕ) (t : Bytes) (net : Network) → readWithoutReset most t ≡ ok net → readUpTo most t ≡ ok net
 
 -- ---- "It refuses with 18, at the line and directly after 2, a RESET whose length is not LEN."
 

@@ -1,4 +1,4 @@
-// The limits of document 01, as specs/Limits.antt has them, and the sizes that follow from them.
+// The limits of documents 01 and 02, as specs/Limits.antt has them, and the sizes that follow from them.
 
 // "Limits: 128 nodes, 4,000 segment bits in all, 4 targets, 16,384 bytes of text."
 pub const MAX_NODES: usize = 128;
@@ -9,8 +9,8 @@ pub const MAX_TARGETS: usize = 4;
 
 pub const MAX_NETWORK_BYTES: usize = 16384;
 
-// "a segment of 1 to 32 bits"
-pub const MAX_LEN: usize = 32;
+// document 02, Change 4: "LEN may be 64, and 65 is refused"
+pub const MAX_LEN: usize = 64;
 
 // "Plans: 16 operations, 64,080 bytes."; a line is `csu`, a tab, at most 4,000 bits and byte 10: 16 × 4,005.
 pub const MAX_OPERATIONS: usize = 16;

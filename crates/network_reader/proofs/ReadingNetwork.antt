@@ -36,7 +36,7 @@ use Rattle.network_draft.specs.Numbers.{numbersFor, TargetsStored}
 use Rattle.network_draft.specs.Represents.{feedsOf, Short, Arrays, arrays, Represents, emptySummary}
 use Rattle.network_reader.specs.Start.{StartFilled}
 use Rattle.network_reader.specs.Counts.{countFrom}
-use Rattle.network_reader.specs.Reads.{LinesAre, recordedNetwork as recorded, recordOf, Uncounted, uncounted, EndsAs, Begun, StartWalked, finishOf, readingBy, noNetwork, RecordCompleteIf, IsReading}
+use Rattle.network_reader.specs.Reads.{LinesAre, recordedNetwork as recorded, recordOf, Uncounted, uncounted, EndsAs, Begun, StartWalked, finishOf, LinesFinished, readingBy, AllZero, noNetwork, RecordCompleteIf, IsReading}
 use Rattle.model.proofs.Lists.{zero-at}
 use Rattle.network_draft.proofs.Representing.{represented-out, represented-words}
 use Rattle.network_reader.proofs.Counting.{counts-steering}
@@ -49,7 +49,7 @@ no-numbers : (k i : ℕ) → 0 ≡ getD (numbersFor (at [] k noNode)) i 0
 no-numbers zero i = sym (zero-at 8 i)
 no-numbers (suc k) i = sym (zero-at 8 i)
 
-pub represents-none : Represents (arrays (replicate 1032 0) (replicate 129 0) (replicate 129 0) (replicate 129 0) (replicate 129 0)) emptySummary noLines 1
+represents-none : Represents (arrays (replicate 1032 0) (replicate 129 0) (replicate 129 0) (replicate 129 0) (replicate 129 0)) emptySummary noLines 1
 unfolding totalBits steers isHeld heldOr wordOfBits
 represents-none = record {
   sized = record {
@@ -75,6 +75,9 @@ represents-none = record {
   sound = sound-start;
 }
 
+pub represents-zero : (ns bits known steering : List ℕ) → AllZero ns bits known steering → Represents (arrays ns bits known steering (replicate 129 0)) emptySummary noLines 1
+represents-zero ns bits known steering z = rw (z .nodes-are, z .bits-are, z .known-are, z .steering-are) represents-none
+
 -- ---- the endings
 
 -- a refusal
@@ -94,14 +97,17 @@ module _ (t : Bytes) where
     unfolding readNetwork
     of-lines = ap (λ (b : Bool). refuseIf b 3 0 (finishOf (readLines maxLen noLines 1 (parts lineEnd t)))) (le-ltb 16384 (length t) short)
 
-    module _ (u : Uncounted) (r : Ending) (ends : EndsAs u (finishOf (readLines maxLen noLines 1 (parts lineEnd t))) r) where
-      pub ends-refused : (number place : ℕ) → r ≡ EndRefused number place → readNetwork t ≡ refused number place
-      ends-refused number place e = of-lines ∙ subst (EndsAs u (finishOf (readLines maxLen noLines 1 (parts lineEnd t)))) e ends
+    pub ends-read : (a : Arrays) (l : Lines) (r : Ending) (bits known : List ℕ) → LinesFinished a l r bits known → LinesAre a (readLines maxLen noLines 1 (parts lineEnd t)) l
+        → EndsAs (uncounted (a .nodes) bits known (a .steering) (l .summary)) (readNetwork t) r
+    ends-read a l r bits known f e =
+        subst (λ (x : Result ModelNetwork). EndsAs (uncounted (a .nodes) bits known (a .steering) (l .summary)) x r) (sym of-lines) (f (readLines maxLen noLines 1 (parts lineEnd t)) e)
 
-      pub ends-recorded : (count len : ℕ) → r ≡ Recorded count len → IsReading t record { verdict = Accepted; network = recordOf u count len }
-      ends-recorded count len e =
-          let f = subst (EndsAs u (finishOf (readLines maxLen noLines 1 (parts lineEnd t)))) e ends in
-          record { reads = sym (of-lines ∙ f .0); filled = f .1 }
+  module _ (u : Uncounted) (r : Ending) (ends : EndsAs u (readNetwork t) r) where
+    pub ends-refused : (number place : ℕ) → r ≡ EndRefused number place → readNetwork t ≡ refused number place
+    ends-refused number place e = subst (EndsAs u (readNetwork t)) e ends
+
+    pub ends-recorded : (count len : ℕ) → r ≡ Recorded count len → IsReading t record { verdict = Accepted; network = recordOf u count len }
+    ends-recorded count len e = let f = subst (EndsAs u (readNetwork t)) e ends in record { reads = sym (f .0); filled = f .1 }
 
 -- ---- behind the lines
 

@@ -19,14 +19,17 @@ use Rattle.network_words.specs.Words.{wordWidth}
 use Rattle.network_path.specs.Layout.{nodeAt, nodesOf}
 use Rattle.network_path.proofs.StoredLaws.{stored-short}
 use Rattle.network_path.specs.Stored.{Stored}
+use Rattle.network_reader.specs.declared.reader.Ending.{Ending}
+use Rattle.network_reader.specs.declared.reader.Ending.the-variants.{Recorded as Counted}
 use Rattle.network_reader.specs.declared.reader.Network.{Network}
 use Rattle.network_reader.specs.declared.reader.Reading.{Reading}
 use Rattle.network_reader.specs.declared.reader.Acceptance.{Acceptance}
 use Rattle.network_reader.specs.declared.reader.Acceptance.the-variants.{Accepted as Passed, Refused as Rejected}
 use Rattle.network_draft.specs.Represents.{targetAt}
-use Rattle.network_reader.specs.Reads.{recordedNetwork, readingBy, RecordComplete, RecordCompleteIf, IsReading}
+use Rattle.network_reader.specs.Reads.{recordedNetwork, readingBy, RecordComplete, Uncounted, recordOf, EndsAs, RecordCompleteIf, IsReading}
 use Rattle.network_path.proofs.NodeLaws.{node-zero, node-beyond}
 use Rattle.network_draft.proofs.TargetLaws.{fits-segment, target-names}
+use Rattle.network_reader.proofs.ReadingNetwork.{ends-recorded}
 
 pub record Recorded (t : Bytes) (r : Network) : Type 0 where
   pub reads : readNetwork t ≡ ok (recordedNetwork r)
@@ -44,6 +47,10 @@ module _ (t : Bytes) (r : Reading) (is : IsReading t r) where
       let f : RecordComplete (r .network) = subst (λ (v : Acceptance). RecordCompleteIf v (r .network)) e (is .filled) in
       let a = accepted t (recordedNetwork (r .network)) q in
       record { reads = q; filled = f; net = a; stored = record { nodes = refl; feeds = refl; most = f .in-limits .nodes-fit; formed = a .wf } }
+
+-- the same of the arrays that a text was read into
+pub filled-recorded : (t : Bytes) (u : Uncounted) (r : Ending) → EndsAs u (readNetwork t) r → (count len : ℕ) → r ≡ Counted count len → Recorded t (recordOf u count len)
+filled-recorded t u r ends count len e = reading-recorded t _ (ends-recorded t u r ends count len e) refl
 
 -- ---- targets
 

@@ -121,6 +121,13 @@ LinesFinished a l r bits known =
 
 -- ---- the whole text
 
+-- the arrays that a text is read into
+pub record AllZero (ns bits known steering : List ℕ) : Type 0 where
+  pub nodes-are : ns ≡ replicate nodeFields 0
+  pub bits-are : bits ≡ replicate nodeNumbers 0
+  pub known-are : known ≡ replicate nodeNumbers 0
+  pub steering-are : steering ≡ replicate nodeNumbers 0
+
 -- the record beside a refusal
 abbrev pub noNetwork : Network
 noNetwork = record { nodes = replicate nodeFields 0; bits = replicate nodeNumbers 0; known = replicate nodeNumbers 0; steering = replicate nodeNumbers 0; summary = emptySummary; «steering_count» = 0; «start_length» = 0 }

@@ -26,9 +26,9 @@ ghost use Prim.Native.Nat.{ℕ, _≤_};
 ghost use lib.ListN.{length};
 ghost use Rattle.model.specs.Limits.{maxNetworkBytes};
 ghost use Rattle.model.specs.Result.{Result};
-ghost use Rattle.model.specs.NetworkText.{Draft, noLines};
+ghost use Rattle.model.specs.NetworkText.{Draft, noLines, readNetwork};
 ghost use Rattle.network_draft.specs.Represents.{arrays, Represents, Drafted, emptySummary};
-ghost use Rattle.network_reader.specs.Reads.{LineAdded, LinesAre, LinesRead, uncounted, Begun, StartWalked, LinesFinished, noNetwork, IsReading};
+ghost use Rattle.network_reader.specs.Reads.{LineAdded, LinesAre, LinesRead, uncounted, Begun, StartWalked, LinesFinished, EndsAs, AllZero, noNetwork, IsReading};
 
 // The record of a network; its last two counts are of the distinct steering bits and of the bits of the start's path.
 pub struct Network {
@@ -63,6 +63,12 @@ pub struct Lines {
 pub enum Ending {
     Refused(usize, usize),
     Recorded(usize, usize),
+}
+
+// What a text leaves beside the arrays.
+pub struct Filled {
+    pub summary: Summary,
+    pub ending: Ending,
 }
 
 fn answer(refusal: Refusal, summary: Summary) -> Added
@@ -250,28 +256,41 @@ fn finish<'a>(
     walk_start(nodes, bits, known, steering, t)
 }
 
+// A network text into arrays of zeros: one refusal, 1 to 9 or 18, or the record's parts.
+pub fn read_into(
+    text: &[u8],
+    nodes: &mut Nodes,
+    bits: &mut Words,
+    known: &mut Words,
+    steering: &mut Words,
+) -> Filled
+    requires { ⌜ AllZero (now nodes) (now bits) (now known) (now steering) ⌝ }
+    ensures { λ r. ⌜ EndsAs (uncounted (now (nodes .exit)) (now (bits .exit)) (now (known .exit)) (now (steering .exit)) (r .summary)) (readNetwork (now (text .entry))) (r .ending) ⌝ }
+{
+    if MAX_NETWORK_BYTES < text.len() {
+        return Filled {
+            summary: empty_summary(),
+            ending: Ending::Refused(refusal::SIZE, 0),
+        };
+    }
+    let mut held = [0u16; NODE_NUMBERS];
+    let lines = read_lines(text, nodes, bits, known, steering, &mut held);
+    let summary = lines.summary;
+    let ending = finish(nodes, bits, known, steering, &held, lines);
+    Filled { summary, ending }
+}
+
 // A network text: the record, or one refusal, 1 to 9 or 18.
 pub fn read_network(text: &[u8]) -> Reading
     ensures { λ r. ⌜ IsReading (now (text .entry)) r ⌝ }
 {
-    if MAX_NETWORK_BYTES < text.len() {
-        return rejected(refusal::SIZE, 0);
-    }
     let mut nodes = [0u16; NODE_FIELDS];
     let mut bits = [0; NODE_NUMBERS];
     let mut known = [0; NODE_NUMBERS];
     let mut steering = [0; NODE_NUMBERS];
-    let mut held = [0u16; NODE_NUMBERS];
-    let lines = read_lines(
-        text,
-        &mut nodes,
-        &mut bits,
-        &mut known,
-        &mut steering,
-        &mut held,
-    );
-    let summary = lines.summary;
-    let ending = finish(&nodes, &mut bits, &mut known, &steering, &held, lines);
+    let filled = read_into(text, &mut nodes, &mut bits, &mut known, &mut steering);
+    let summary = filled.summary;
+    let ending = filled.ending;
     match ending {
         Ending::Refused(number, place) => rejected(number, place),
         Ending::Recorded(count, length) => Reading {

@@ -9,9 +9,9 @@ use Rattle.model.specs.Text.{Bytes, Trit}
 use Rattle.model.specs.Network.{tabulate}
 use Rattle.model.specs.Path.{bitValue}
 
--- the bits of a word; a segment has no more
+-- the bits of a word; a segment has no more. Document 02, Change 4: "The stored bits and known marks grow from 32 to 64"
 abbrev pub wordWidth : ℕ
-wordWidth = 32
+wordWidth = 64
 
 -- the word with all bits set
 abbrev pub allKnown : ℕ

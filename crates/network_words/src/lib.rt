@@ -7,7 +7,7 @@ ghost use Rattle.model.specs.Path.{bitValue};
 ghost use Rattle.network_words.specs.Words.{wordWidth, wordBit, byteBit, shiftIn, wordOfBits, wordFrom, byteKnown};
 
 // A word of a segment's bits, or of their known marks.
-pub type Word = u32;
+pub type Word = u64;
 
 // A word of known marks with every bit known.
 pub const ALL_KNOWN: Word = !0;

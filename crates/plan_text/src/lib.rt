@@ -100,15 +100,15 @@ pub fn put(buf: &mut [u8], at: usize, new: &[u8]) -> usize
     at + n
 }
 
-// As many `0` written from a place on; the place behind them.
-pub fn put_zeros(buf: &mut [u8], at: usize, n: usize) -> usize
+// A byte written n times from a place on; the place behind them.
+pub fn put_repeated(buf: &mut [u8], at: usize, byte: u8, n: usize) -> usize
     requires { ⌜ at + n ≤ length (now buf) ⌝ }
     ensures { λ r. ⌜ r ≡ at + n ⌝ }
-    ensures { λ r. ⌜ now (buf .exit) ≡ writeAt at (replicate n 48) (now (buf .entry)) ⌝ }
+    ensures { λ r. ⌜ now (buf .exit) ≡ writeAt at (replicate n byte) (now (buf .entry)) ⌝ }
 {
     let mut i: usize = 0;
     while i < n {
-        buf[at + i] = b'0';
+        buf[at + i] = byte;
         i += 1;
     }
     at + n

@@ -15,8 +15,7 @@ use Rattle.model.specs.PlanText.{writePlan}
 use Rattle.model.specs.NetworkText.{readNetwork}
 use Rattle.model.specs.Planner.{planFor}
 use Rattle.model.specs.Calls.{writeOver, written, countOf, ifRoom, searchEntries, searchable, planned, cleared, PlanAnswer, makePlan}
-use Rattle.network_reader.specs.declared.reader.Network.{Network}
-use Rattle.network_reader.specs.Reads.{recordedNetwork}
+use Rattle.network_reader.specs.Reads.{recordedNetwork, Uncounted, recordOf}
 use Rattle.planner_text.specs.declared.Planned.{Planned}
 use Rattle.planner_text.specs.declared.Planned.the-variants.{Refused}
 use Rattle.planner_text.specs.Writing.{plannedAnswer, Given}
@@ -30,17 +29,17 @@ planned-none net room e = rw e
 planned-some : (net : ModelNetwork) (room : ℕ) (p : Plan) → planFor net ≡ some p → planned (ok net) room ≡ ifRoom room (writePlan p)
 planned-some net room p e = rw e
 
-module _ (r : Network) (search plan search′ : List ℕ) (clear : search′ ≡ writeOver (replicate searchEntries 0) search) where
-  plans-by : (x : Result (List ℕ)) (a : Planned) (plan′ : List ℕ) → planned (ok (recordedNetwork r)) (length plan) ≡ x → plannedAnswer a ≡ countOf x → plan′ ≡ written x plan
-      → PlansIn r search plan a search′ plan′
+module _ (u : Uncounted) (search plan search′ : List ℕ) (clear : search′ ≡ writeOver (replicate searchEntries 0) search) where
+  plans-by : (x : Result (List ℕ)) (a : Planned) (plan′ : List ℕ) → planned (ok (recordedNetwork (recordOf u 0 0))) (length plan) ≡ x → plannedAnswer a ≡ countOf x → plan′ ≡ written x plan
+      → PlansIn u search plan a search′ plan′
   plans-by x a plan′ e b w = record { result = b ∙ ap countOf (sym e); search-left = clear; plan-left = w ∙ ap (λ (y : Result (List ℕ)). written y plan) (sym e) }
 
   -- 11
-  pub plans-none : planFor (recordedNetwork r) ≡ none → PlansIn r search plan (Refused 11 0) search′ plan
-  plans-none e = plans-by (refused 11 0) (Refused 11 0) plan (planned-none (recordedNetwork r) (length plan) e) refl refl
+  pub plans-none : planFor (recordedNetwork (recordOf u 0 0)) ≡ none → PlansIn u search plan (Refused 11 0) search′ plan
+  plans-none e = plans-by (refused 11 0) (Refused 11 0) plan (planned-none (recordedNetwork (recordOf u 0 0)) (length plan) e) refl refl
 
-  pub plans-given : (p : Plan) → planFor (recordedNetwork r) ≡ some p → (a : Planned) (plan′ : List ℕ) → Given (writePlan p) plan a plan′ → PlansIn r search plan a search′ plan′
-  plans-given p e a plan′ g = plans-by (ifRoom (length plan) (writePlan p)) a plan′ (planned-some (recordedNetwork r) (length plan) p e) (g .result) (g .left)
+  pub plans-given : (p : Plan) → planFor (recordedNetwork (recordOf u 0 0)) ≡ some p → (a : Planned) (plan′ : List ℕ) → Given (writePlan p) plan a plan′ → PlansIn u search plan a search′ plan′
+  plans-given p e a plan′ g = plans-by (ifRoom (length plan) (writePlan p)) a plan′ (planned-some (recordedNetwork (recordOf u 0 0)) (length plan) p e) (g .result) (g .left)
 
 -- ---- the whole call
 
@@ -73,9 +72,9 @@ module _ (n : Bytes) (search plan : List ℕ) where
       unfolding searchable searchEntries
       too-short h = makes-refused 12 11664 (rw (reads, le-ltb 6 (length (steeringBits (net .nodes))) (omega arith)) (rw (lt-ltb (length search) 11664 h)))
 
-      pub searched : (r : Network) (a : Planned) (search′ plan′ : List ℕ) → recordedNetwork r ≡ net → 11664 ≤ length search → PlansIn r search plan a search′ plan′ → MadePlan n search plan a search′ plan′
+      pub searched : (u : Uncounted) (a : Planned) (search′ plan′ : List ℕ) → recordedNetwork (recordOf u 0 0) ≡ net → 11664 ≤ length search → PlansIn u search plan a search′ plan′ → MadePlan n search plan a search′ plan′
       unfolding searchable searchEntries
-      searched r a search′ plan′ e h p =
+      searched u a search′ plan′ e h p =
           let m = makes-by (ok net) (rw (reads, le-ltb 6 (length (steeringBits (net .nodes))) (omega arith)) (rw (le-ltb (length search) 11664 h))) in
           record {
             result = p .result ∙ ap (λ (w : ModelNetwork). countOf (planned (ok w) (length plan))) e ∙ sym (ap (λ (y : PlanAnswer). y .result) m);

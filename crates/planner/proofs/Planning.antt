@@ -14,7 +14,7 @@ use Rattle.network_path.specs.Layout.{lookIn}
 use Rattle.plan_text.proofs.Writing.{over-none}
 use Rattle.network_reader.specs.declared.reader.Network.{Network}
 use Rattle.network_draft.specs.Represents.{targetAt}
-use Rattle.network_reader.specs.Reads.{recordedNetwork}
+use Rattle.network_reader.specs.Reads.{recordedNetwork, Uncounted, recordOf}
 use Rattle.planner_theory.specs.Settings.{settingOf, numberOf}
 use Rattle.planner_theory.specs.Moves.{decode}
 use Rattle.planner_theory.proofs.SettingNumbers.{setting-small}
@@ -44,13 +44,17 @@ rows-none ns steering pb = record {
   right = λ net p x l e. absurd (omega (arith, zero-at 8019 (x * 11 + 0)));
 }
 
-module _ (r : Network) (search : List ℕ) (s : Searchable r search) where
+module _ (u : Uncounted) (search : List ℕ) (s : Searchable u search) where
+  -- the record that the parts are of
+  abbrev r : Network
+  r = recordOf u (s .count) (s .len)
+
   -- ---- without targets
 
-  pub plans-empty : (plan search′ : List ℕ) → search′ ≡ writeOver (replicate searchEntries 0) search → r .summary .«target_count» ≡ 0 → PlansIn r search plan (Written 0) search′ plan
+  pub plans-empty : (plan search′ : List ℕ) → search′ ≡ writeOver (replicate searchEntries 0) search → r .summary .«target_count» ≡ 0 → PlansIn u search plan (Written 0) search′ plan
   unfolding writePlan
   plans-empty plan search′ clear e =
-      plans-given r search plan search′ clear [] (plan-empty (recordedNetwork r) (s .accepted) (ap (tabulate (targetAt (r .nodes) (r .summary)) 0) e)) (Written 0) plan
+      plans-given u search plan search′ clear [] (plan-empty (recordedNetwork r) (s .accepted) (ap (tabulate (targetAt (r .nodes) (r .summary)) 0) e)) (Written 0) plan
       (given-written (writePlan []) plan 0 refl (omega arith) plan (sym (over-none plan)))
 
   -- ---- the problem is made
@@ -88,8 +92,8 @@ module _ (r : Network) (search : List ℕ) (s : Searchable r search) where
       -- what it answers
       module _ (plan search′ : List ℕ) (clear : search′ ≡ writeOver (replicate searchEntries 0) search) (f : Found) (picked : List ℕ)
           (is : Each (r .nodes) (r .steering) pb (λ net. PlanFound net start (replicate 16 0) f picked)) where
-        pub finds-none : f ≡ Nothing → PlansIn r search plan (Refused 11 0) search′ plan
-        finds-none q = plans-none r search plan search′ clear (found-nothing (recordedNetwork r) (s .accepted) start number (is (recordedNetwork r) prepared) q)
+        pub finds-none : f ≡ Nothing → PlansIn u search plan (Refused 11 0) search′ plan
+        finds-none q = plans-none u search plan search′ clear (found-nothing (recordedNetwork r) (s .accepted) start number (is (recordedNetwork r) prepared) q)
 
         module _ (n : ℕ) (q : f ≡ Operations n) where
           found : FoundPlan (recordedNetwork r) (s .accepted) start number picked n
@@ -102,5 +106,5 @@ module _ (r : Network) (search : List ℕ) (s : Searchable r search) where
           pub has-text : Countable (r .nodes) (r .steering) pb start picked n
           has-text = (recordedNetwork r, found .cs, counts-of)
 
-          pub finds-plan : (a : Planned) (plan′ : List ℕ) → GivesText (r .nodes) (r .steering) pb start picked n plan a plan′ → PlansIn r search plan a search′ plan′
-          finds-plan a plan′ g = plans-given r search plan search′ clear (decode (recordedNetwork r) start (found .cs)) (found .plan-found) a plan′ (g (recordedNetwork r) (found .cs) counts-of)
+          pub finds-plan : (a : Planned) (plan′ : List ℕ) → GivesText (r .nodes) (r .steering) pb start picked n plan a plan′ → PlansIn u search plan a search′ plan′
+          finds-plan a plan′ g = plans-given u search plan search′ clear (decode (recordedNetwork r) start (found .cs)) (found .plan-found) a plan′ (g (recordedNetwork r) (found .cs) counts-of)

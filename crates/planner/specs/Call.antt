@@ -9,23 +9,24 @@ use Rattle.model.specs.Result.{ok}
 use Rattle.model.specs.Text.{Bytes}
 use Rattle.model.specs.Calls.{writeOver, written, countOf, searchEntries, planned, makePlan}
 use Rattle.model.specs.Accepted.{Accepted}
-use Rattle.network_reader.specs.declared.reader.Network.{Network}
-use Rattle.network_reader.specs.Reads.{recordedNetwork, RecordComplete}
+use Rattle.network_reader.specs.Reads.{recordedNetwork, RecordComplete, Uncounted, recordOf}
 use Rattle.planner_text.specs.declared.Planned.{Planned}
 use Rattle.planner_text.specs.Writing.{plannedAnswer}
 
--- an accepted network that came past the checks 10 and 12
-pub record Searchable (r : Network) (search : List ℕ) : Type 0 where
-  pub filled : RecordComplete r
-  pub accepted : Accepted (recordedNetwork r)
-  pub few : r .«steering_count» ≤ maxSteeringBits
+-- the parts of a record of an accepted network that came past the checks 10 and 12
+pub record Searchable (u : Uncounted) (search : List ℕ) : Type 0 where
+  pub count : ℕ
+  pub len : ℕ
+  pub filled : RecordComplete (recordOf u count len)
+  pub accepted : Accepted (recordedNetwork (recordOf u count len))
+  pub few : count ≤ maxSteeringBits
   pub enough : searchSize ≤ length search
 
--- the answer to it, the search space and the plan buffer
-pub record PlansIn (r : Network) (search plan : List ℕ) (a : Planned) (search′ plan′ : List ℕ) : Type 0 where
-  pub result : plannedAnswer a ≡ countOf (planned (ok (recordedNetwork r)) (length plan))
+-- the answer to them, the search space and the plan buffer
+pub record PlansIn (u : Uncounted) (search plan : List ℕ) (a : Planned) (search′ plan′ : List ℕ) : Type 0 where
+  pub result : plannedAnswer a ≡ countOf (planned (ok (recordedNetwork (recordOf u 0 0))) (length plan))
   pub search-left : search′ ≡ writeOver (replicate searchEntries 0) search
-  pub plan-left : plan′ ≡ written (planned (ok (recordedNetwork r)) (length plan)) plan
+  pub plan-left : plan′ ≡ written (planned (ok (recordedNetwork (recordOf u 0 0))) (length plan)) plan
 
 -- `make_plan` returned a for a network text, and left the search space as search′ and the plan buffer as plan′
 pub record MadePlan (n : Bytes) (search plan : List ℕ) (a : Planned) (search′ plan′ : List ℕ) : Type 0 where

@@ -10,7 +10,7 @@ use network_path::places::path_length;
 use network_words::Word;
 use network_words::bit_at;
 use plan_text::put;
-use plan_text::put_zeros;
+use plan_text::put_repeated;
 ghost use mathlib.Core.Path.{_≡_};
 ghost use mathlib.Core.Bool.{cond};
 ghost use Prim.Native.Nat.{_+_, _/_, _%_, _<_, _≤_};
@@ -190,7 +190,7 @@ pub fn put_line<'a>(
     ensures { λ _. ⌜ LinePut (now (nodes .entry)) (now (steering .entry)) (now (wants .entry)) (now (way .entry)) n at h c (now (plan .entry)) (now (plan .exit)) ⌝ }
 {
     let start = put(plan, at, b"csu\t");
-    put_zeros(plan, start, path_length(nodes, way, n));
+    put_repeated(plan, start, b'0', path_length(nodes, way, n));
     let end = put_operation(nodes, steering, wants, way, n, plan, start, h, c);
     put(plan, end, b"\n")
 }

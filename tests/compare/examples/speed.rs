@@ -1,5 +1,6 @@
 //! Time of the proved calls over the time of the plain Rust version, in one run.
-//! `cargo run --release --offline --manifest-path tests/compare/Cargo.toml --example speed`
+//! `cargo run --release --offline --manifest-path tests/compare/Cargo.toml --example speed [NAME]`,
+//! with NAME only the rows whose names have it.
 
 mod recoverings;
 
@@ -55,6 +56,9 @@ fn compare(
     mut proved: impl FnMut(),
     mut plain: impl FnMut(),
 ) {
+    if !std::env::args().nth(1).is_none_or(|wanted| name.contains(&wanted)) {
+        return;
+    }
     let mut least = [Duration::MAX; 2];
     for _ in 0..rounds {
         least[0] = least[0].min(round(calls, &mut proved));
@@ -70,20 +74,28 @@ fn compare(
     );
 }
 
-/// Most nodes and bits: 125 segments of 32 bits, then multiplexers, each segment with start bits in its
+/// The lengths of segments of `len` bits, the last one perhaps shorter, that have 4,000 bits together.
+fn lengths(len: usize) -> Vec<usize> {
+    (0..4_000).step_by(len).map(|before| len.min(4_000 - before)).collect()
+}
+
+/// Most bits: 4,000 in segments of `len`, then three multiplexers, each segment with start bits in its
 /// RESET or in a `hold` line.
-fn most_bits(reset: bool) -> Vec<u8> {
-    let bits = "0".repeat(32);
+fn most_bits(len: usize, reset: bool) -> Vec<u8> {
     let mut text = String::new();
-    for number in 0..125 {
-        text += &format!("seg\t{number}\t32\ts");
-        text += &if reset { format!("\t{bits}\n") } else { "\n".to_string() };
+    let lengths = lengths(len);
+    for (number, &len) in lengths.iter().enumerate() {
+        text += &format!("seg\t{number}\t{len}\ts");
+        text += &if reset { format!("\t{}\n", "0".repeat(len)) } else { "\n".to_string() };
     }
-    text += "mux\t1\t0\t125\t0\nmux\t1\t1\t126\t0\nmux\t1\t2\t127\t0\nout\t128\n";
-    for segment in (1..=125).filter(|_| !reset) {
-        text += &format!("hold\t{segment}\t{bits}\n");
+    for bit in 0..3 {
+        text += &format!("mux\t1\t{bit}\t{}\t0\n", lengths.len() + bit);
     }
-    text += &format!("read\t2\nread\t3\nwrite\t4\t{0}\nwrite\t5\t{0}\n", "1".repeat(32));
+    text += &format!("out\t{}\n", lengths.len() + 3);
+    for (index, &len) in lengths.iter().enumerate().filter(|_| !reset) {
+        text += &format!("hold\t{}\t{}\n", index + 1, "0".repeat(len));
+    }
+    text += &format!("read\t2\nread\t3\nwrite\t4\t{0}\nwrite\t5\t{0}\n", "1".repeat(len));
     text.into_bytes()
 }
 
@@ -114,8 +126,15 @@ fn longest_path() -> Vec<u8> {
     (text + "out\t128\nread\t1\nread\t50\nread\t100\nread\t128\n").into_bytes()
 }
 
-/// 128 nodes, of which few are on the path: 63 pairs of a segment and a multiplexer past it, steered
-/// by a segment of one bit, and a target beside it.
+/// 62 segments of 64 bits and one of 32 in a row, four of them read: 4,000 bits.
+fn longest_registers() -> Vec<u8> {
+    let lengths = lengths(64).into_iter().enumerate();
+    let nodes: String = lengths.map(|(from, len)| format!("seg\t{from}\t{len}\ts\n")).collect();
+    (nodes + "out\t63\nread\t1\nread\t25\nread\t50\nread\t63\n").into_bytes()
+}
+
+/// 128 nodes, of which few are on the path: 63 pairs of a segment of 32 bits and a multiplexer past it,
+/// steered by a segment of one bit, and a target beside it.
 fn short_path() -> Vec<u8> {
     let mut text = String::from("seg\t0\t1\ts\nseg\t1\t4\ts\n");
     for pair in 0..63 {
@@ -131,24 +150,38 @@ fn longest_plan() -> Vec<u8> {
     format!("csu\t{bits}\n").repeat(16).into_bytes()
 }
 
-/// Six SIBs in a row, each with a register of 32 bits; four registers are targets.
-fn sib_chain() -> Vec<u8> {
+/// Six SIBs in a row, each with a register of `len` bits; four registers are targets.
+fn sib_chain(len: usize) -> Vec<u8> {
     let mut text = String::new();
     for sib in 0..6 {
         let from = 3 * sib;
         let (register, multiplexer, bit) = (from + 1, from + 2, from + 3);
-        text += &format!("seg\t{from}\t32\ts\nmux\t{bit}\t0\t{from}\t{register}\n");
+        text += &format!("seg\t{from}\t{len}\ts\nmux\t{bit}\t0\t{from}\t{register}\n");
         text += &format!("seg\t{multiplexer}\t1\ts\n");
     }
-    let ones = "1".repeat(32);
+    let ones = "1".repeat(len);
     text += &format!("out\t18\nread\t1\nwrite\t4\t{ones}\nread\t10\nwrite\t16\t{ones}\n");
+    text.into_bytes()
+}
+
+/// The same with one steering segment of 64 bits, of which the six highest are the addresses.
+fn high_addresses() -> Vec<u8> {
+    let mut text = String::from("seg\t0\t64\ts\n");
+    for sib in 0..6 {
+        let from = 2 * sib + 1;
+        text += &format!("seg\t{from}\t64\ts\nmux\t1\t{}\t{from}\t{}\n", 58 + sib, from + 1);
+    }
+    let ones = "1".repeat(64);
+    text += &format!("out\t13\nread\t2\nwrite\t4\t{ones}\nread\t8\nwrite\t12\t{ones}\n");
     text.into_bytes()
 }
 
 fn readings() {
     for (name, text) in [
-        ("read, 125 segments of 32 bits, all held", most_bits(false)),
-        ("read, 125 segments of 32 bits, all with RESET", most_bits(true)),
+        ("read, 125 segments of 32 bits, all held", most_bits(32, false)),
+        ("read, 125 segments of 32 bits, all with RESET", most_bits(32, true)),
+        ("read, 62 segments of 64 bits and one of 32, all held", most_bits(64, false)),
+        ("read, 62 segments of 64 bits and one of 32, all with RESET", most_bits(64, true)),
         ("read, 127 multiplexers of four inputs", most_multiplexers()),
         ("read, the longest text, refused at its last line", most_bytes()),
     ] {
@@ -163,6 +196,7 @@ fn marks() {
     let bits_5 = plan_line(5);
     for (name, network, plan) in [
         ("mark, 16 operations of 4,000 bits", longest_path(), longest_plan()),
+        ("mark, the same in segments of 64 bits", longest_registers(), longest_plan()),
         ("mark, one operation of 5 bits on 128 nodes", short_path(), bits_5.clone()),
         ("mark, 16 operations of 5 bits on 128 nodes", short_path(), bits_5.repeat(16)),
     ] {
@@ -181,6 +215,7 @@ fn carryings() {
         (&b"seg\t0\t4\ts\nmux\t3\t0\t0\t1\nseg\t2\t1\ts\nout\t3\n"[..], b"csu\t1\ncsu\t00101\n");
     for (name, network, plan) in [
         ("carry, 16 operations of 4,000 bits", longest_path(), longest_plan()),
+        ("carry, the same in segments of 64 bits", longest_registers(), longest_plan()),
         ("carry, one operation of 5 bits on 128 nodes", short_path(), plan_line(5)),
         ("carry, two operations on 3 nodes", small.to_vec(), two.to_vec()),
     ] {
@@ -222,7 +257,12 @@ fn plans() {
             many_rounds().text(),
         ),
         ("plan, 4,000 bits, 6 steering bits, 4 targets, 128 nodes", full().text()),
-        ("plan, a chain of 6 SIBs, 4 targets", sib_chain()),
+        ("plan, a chain of 6 SIBs, 4 targets", sib_chain(32)),
+        ("plan, a chain of 6 SIBs with registers of 64 bits, 4 targets", sib_chain(64)),
+        (
+            "plan, six registers of 64 bits past which bits 58 to 63 lead, 4 targets",
+            high_addresses(),
+        ),
         ("plan, the empty one of `out 0`", b"out\t0\n".to_vec()),
     ] {
         let [mut search, mut plain_search] = [(); 2].map(|_| vec![0; SEARCH_ENTRIES]);

@@ -14,6 +14,8 @@ use penthluk_reference::generate::edges::{draw_edge_network, draw_edge_plan, hel
 use penthluk_reference::generate::exercises::{draw_exercise, Exercise};
 use penthluk_reference::generate::faults::{all_faults, FAULTS};
 use penthluk_reference::generate::large::{chain, full, large};
+use penthluk_reference::generate::long_cases::long_case;
+use penthluk_reference::generate::long_registers::{longest_choices, longest_row};
 use penthluk_reference::generate::near::{near, CHANGES};
 use penthluk_reference::generate::plan_damage::{damage_plan, PLAN_FAULTS};
 use penthluk_reference::generate::plans::wander;
@@ -104,7 +106,7 @@ fn generated_pairs() {
 fn pairs_of_other_calls() {
     let mut counts = Counts::default();
     for seed in 0..OTHER_CASES {
-        for case in [case(seed), reset_case(seed)] {
+        for case in [case(seed), reset_case(seed), long_case(seed)] {
             counts.compare(&case.network, &case.plan, MAX_HOLD_BYTES);
             counts.compare(&case.network, &case.plan, case.plan_room.min(MAX_HOLD_BYTES));
         }
@@ -205,7 +207,9 @@ fn large_texts() {
         give_resets(random, &mut drawn[1]);
         let [old, new] = drawn;
         let row = chain(MAX_NODES, MAX_NETWORK_BITS);
-        for draft in [row, full(), held_chain(random), held_reset_chain(random), old, new] {
+        let [long, choices] = [longest_row(random), longest_choices(random)];
+        let held = [held_chain(random), held_reset_chain(random)];
+        for draft in [row, long, choices, full(), old, new].into_iter().chain(held) {
             let text = draft.text();
             let Ok(network) = read_network(&text) else { continue };
             let plan = write_plan(&wander(random, &network, MAX_OPERATIONS, 95));

@@ -7,6 +7,8 @@ use penthluk_reference::generate::cases::{case, damaged_with, draw_network, draw
 use penthluk_reference::generate::edges::{draw_edge_network, draw_edge_plan, held_chain};
 use penthluk_reference::generate::faults::{all_faults, FAULTS};
 use penthluk_reference::generate::large::{full, large};
+use penthluk_reference::generate::long_cases::{draw_long_network, long_case};
+use penthluk_reference::generate::long_registers::{longest_choices, longest_row};
 use penthluk_reference::generate::near::{near, CHANGES};
 use penthluk_reference::generate::plan_damage::{damage_plan, PLAN_FAULTS};
 use penthluk_reference::generate::plans::wander;
@@ -26,6 +28,8 @@ use short_plans::each_short_plan;
 const CASES: u64 = 100_000;
 /// Pairs whose networks have RESET fields.
 const RESET_CASES: u64 = 50_000;
+/// Pairs whose networks have long registers.
+const LONG_CASES: u64 = 50_000;
 /// Networks whose passed plan is changed in each way.
 const NETWORKS: u64 = 30_000;
 /// Damaged texts of each kind.
@@ -99,6 +103,19 @@ fn generated_pairs_with_resets() {
     assert!(counts.rows.iter().all(|&count| count as u64 >= RESET_CASES / 2_000), "{counts:?}");
 }
 
+/// The same where the networks have registers up to 64 bits.
+#[test]
+fn generated_pairs_with_long_registers() {
+    let mut counts = Counts::default();
+    for seed in 0..LONG_CASES {
+        let case = long_case(seed);
+        counts.compare(&case.network, &case.plan);
+    }
+    let numbers = [0, 1, 2, 3, 4, 5, 6, 7, 8, 9, 14, 15, 16, 17, 18];
+    counts.at_least(&numbers, LONG_CASES as usize / 2_000);
+    assert!(counts.rows.iter().all(|&count| count as u64 >= LONG_CASES / 2_000), "{counts:?}");
+}
+
 /// A passed plan, and that plan with one change: a bit too many or too few, a bit or an address
 /// turned, the last operations left out, a last configuration that is not valid.
 #[test]
@@ -166,7 +183,8 @@ fn damaged_texts() {
     counts.at_least(&[1, 2, 3, 4, 5, 6, 7, 8, 9], DAMAGED as usize / 10);
 }
 
-/// Networks with RESET fields, with each fault, and plans one change away from a passed one.
+/// Networks with RESET fields, with each fault, and plans one change away from a passed one, also for
+/// networks with long registers.
 #[test]
 fn damaged_and_near_with_resets() {
     let random = &mut Random::new(1_004);
@@ -182,8 +200,9 @@ fn damaged_and_near_with_resets() {
     }
     counts.at_least(&[1, 2, 3, 4, 5, 6, 7, 8, 9, 18], DAMAGED as usize / 10);
     let mut counts = Counts::default();
-    for _ in 0..NETWORKS / 3 {
-        let text = draw_reset_network(random).text();
+    for round in 0..NETWORKS / 3 {
+        let draw = [draw_reset_network, draw_long_network][round as usize % 2];
+        let text = draw(random).text();
         let Ok(network) = read_network(&text) else { continue };
         let plan = draw_plan(random, &network);
         if counts.compare(&text, &write_plan(&plan))[0] != 0 {
@@ -208,7 +227,9 @@ fn large_texts() {
     let random = &mut Random::new(1_003);
     let mut counts = Counts::default();
     for _ in 0..LARGE {
-        for text in [full().text(), held_chain(random).text(), large(random).text()] {
+        let long = [longest_row(random).text(), longest_choices(random).text()];
+        let others = [full().text(), held_chain(random).text(), large(random).text()];
+        for text in long.into_iter().chain(others) {
             let Ok(network) = read_network(&text) else { continue };
             let plan = write_plan(&wander(random, &network, MAX_OPERATIONS, 95));
             counts.compare(&text, &plan);

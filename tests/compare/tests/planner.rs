@@ -9,6 +9,8 @@ use penthluk_reference::generate::draft::Draft;
 use penthluk_reference::generate::edges::held_chain;
 use penthluk_reference::generate::faults::{all_faults, FAULTS};
 use penthluk_reference::generate::large::{chain, full, large, steered};
+use penthluk_reference::generate::long_cases::{draw_long_network, draw_long_text};
+use penthluk_reference::generate::long_registers::longest_choices;
 use penthluk_reference::generate::maze::{gray, maze, GrayWalk};
 use penthluk_reference::generate::random::Random;
 use penthluk_reference::generate::reset_cases::{
@@ -19,8 +21,8 @@ use penthluk_reference::generate::sib::{sib_chain, sib_tree, Size};
 use penthluk_reference::generate::tiny::tiny;
 use penthluk_reference::generate::unknown::make_unknown;
 use penthluk_reference::limits::{
-    MAX_NETWORK_BITS, MAX_NODES, MAX_OPERATIONS, MAX_PLAN_BYTES, MAX_SEGMENT_BITS,
-    MAX_STEERING_BITS, SEARCH_ENTRIES,
+    EARLIER_SEGMENT_BITS, MAX_NETWORK_BITS, MAX_NODES, MAX_OPERATIONS, MAX_PLAN_BYTES,
+    MAX_SEGMENT_BITS, MAX_STEERING_BITS, SEARCH_ENTRIES,
 };
 use plan_counts::{Counts, ALL_LENGTHS};
 
@@ -121,6 +123,37 @@ fn networks_with_resets() {
     assert!(counts.unknown >= 150 && counts.tried >= 4_000, "{counts:?}");
 }
 
+/// Registers up to 64 bits, steered by their upper bits, and texts with what does not fit.
+#[test]
+fn networks_with_long_registers() {
+    let counts = plan_many(3_011, 6_000, draw_long_network);
+    counts.answered(&[(0, 4_500), (9, 800), (10, 100), (11, 600), (12, 4_000), (13, 700)]);
+    counts.had_operations(&[700, 900, 800, 50, 30, 20]);
+    let random = &mut Random::new(3_012);
+    let mut counts = Counts::default();
+    for _ in 0..3_000 {
+        let text = draw_long_text(random);
+        counts.plan(random, &text);
+    }
+    counts.answered(&[
+        (0, 1_500),
+        (1, 500),
+        (2, 700),
+        (3, 250),
+        (4, 120),
+        (5, 450),
+        (6, 550),
+        (7, 20),
+        (8, 5),
+        (9, 700),
+        (10, 50),
+        (11, 220),
+        (12, 1_100),
+        (13, 300),
+        (18, 650),
+    ]);
+}
+
 /// Texts with RESET fields of all kinds, one of three damaged, and texts with each fault.
 #[test]
 fn generated_texts_with_resets() {
@@ -162,7 +195,7 @@ fn generated_texts_with_resets() {
 fn generated_texts() {
     let random = &mut Random::new(3_005);
     let mut counts = Counts::default();
-    for _ in 0..6_000 {
+    for _ in 0..8_500 {
         let text = draw_network_text(random);
         counts.plan(random, &text);
     }
@@ -242,18 +275,22 @@ fn steering_counts() {
 fn large_networks() {
     let random = &mut Random::new(3_008);
     let mut counts = Counts::default();
-    let ones = "1".repeat(MAX_SEGMENT_BITS);
+    let mut choices = longest_choices(random);
+    choices.draw_targets(random, 20);
+    let [ones, long] = [EARLIER_SEGMENT_BITS, MAX_SEGMENT_BITS].map(|len| "1".repeat(len));
     for draft in [
         chain(MAX_NODES, MAX_NETWORK_BITS),
         held_chain(random),
         full(),
         many_rounds(),
-        gray(MAX_OPERATIONS, Some(&ones), &[MAX_SEGMENT_BITS; 108]),
-        gray(MAX_OPERATIONS + 1, Some(&ones), &[MAX_SEGMENT_BITS; 90]),
+        gray(MAX_OPERATIONS, Some(&ones), &[EARLIER_SEGMENT_BITS; 108]),
+        gray(MAX_OPERATIONS + 1, Some(&ones), &[EARLIER_SEGMENT_BITS; 90]),
+        gray(MAX_OPERATIONS, Some(&long), &[MAX_SEGMENT_BITS; 61]),
+        choices,
     ] {
         counts.plan_with(random, &draft.text(), true);
     }
-    assert_eq!(counts.operations[MAX_OPERATIONS], 2, "{counts:?}");
+    assert_eq!(counts.operations[MAX_OPERATIONS], 3, "{counts:?}");
     for _ in 0..200 {
         let text = large(random).text();
         counts.plan(random, &text);

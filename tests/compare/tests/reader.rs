@@ -2,6 +2,7 @@
 
 use penthluk_compare::{read, read_line};
 use penthluk_reference::generate::cases::draw_network_text;
+use penthluk_reference::generate::long_cases::{draw_long_text, long_random};
 use penthluk_reference::generate::random::Random;
 use penthluk_reference::generate::reset_cases::{
     draw_reset_text, long_reset, long_reset_chain, reset_random,
@@ -12,6 +13,9 @@ const TEXTS: u64 = 120_000;
 
 /// Texts with RESET fields.
 const RESET_TEXTS: u64 = 60_000;
+
+/// Texts with long registers.
+const LONG_TEXTS: u64 = 60_000;
 
 #[track_caller]
 fn compare(text: &[u8]) -> usize {
@@ -48,6 +52,17 @@ fn generated_texts_with_resets() {
     assert!((0..=9).chain([18]).all(least), "{counts:?}");
 }
 
+/// The same for texts with registers up to 64 bits.
+#[test]
+fn generated_texts_with_long_registers() {
+    let mut counts = [0usize; 19];
+    for seed in 0..LONG_TEXTS {
+        counts[compare(&draw_long_text(&mut long_random(seed)))] += 1;
+    }
+    let least = |number: usize| counts[number] as u64 >= LONG_TEXTS / 2_000;
+    assert!((0..=9).chain([18]).all(least), "{counts:?}");
+}
+
 /// Every text of at most two lines from a few words, and every cut of a whole text.
 #[test]
 fn short_texts() {
@@ -58,6 +73,9 @@ fn short_texts() {
         "seg\t0\t1\ts\n",
         "seg\t0\t32\tp\n",
         "seg\t0\t33\ts\n",
+        "seg\t0\t64\tp\n",
+        "seg\t0\t65\ts\n",
+        "mux\t1\t63\t0\t0\n",
         "seg\t0\t01\ts\n",
         "mux\t1\t0\t0\t0\n",
         "mux\t2\t0\t0\t1\n",
@@ -74,7 +92,7 @@ fn short_texts() {
         "seg\t0\t1\tp\tX\n",
         "seg\t0\t1\ts\t01\n",
         "seg\t0\t2\ts\t1\n",
-        "seg\t0\t33\ts\t0\n",
+        "seg\t0\t65\ts\t0\n",
         "seg\t0\t1\ts\tx\n",
         "seg\t0\t1\ts\t0\t0\n",
         "seg\t0\t1\ts\t0",

@@ -23,18 +23,20 @@ use penthluk_reference::plan_text::parse_plan;
 use penthluk_reference::programs;
 use penthluk_reference::reader::read_network;
 
+/// The seeds of module i begin so many thousands above this one.
+const SEED: u64 = 500;
 /// The longest texts.
-const MAX_NETWORK: usize = 300;
-const MAX_PLAN: usize = 200;
+const MAX_NETWORK: usize = 400;
+const MAX_PLAN: usize = 300;
 /// The cases of a module, each with a row of `carry` and one of its call.
-const CASES: usize = 12;
+const CASES: usize = 14;
 /// The exercises in turn of a module.
 const TURNS: usize = 5;
 /// The least counts hold for so many modules and more.
 const MODULES: usize = 12;
 
 /// How many cases of twelve modules at least pass and have each form, or are refused with each number.
-const LEAST: [(&str, usize); 22] = [
+const LEAST: [(&str, usize); 24] = [
     ("no operation", 13),
     ("one operation", 9),
     ("two operations", 15),
@@ -48,6 +50,8 @@ const LEAST: [(&str, usize); 22] = [
     ("X of a steering segment", 2),
     ("X from a RESET", 8),
     ("X and known bits in one segment", 8),
+    ("X above bit 31", 10),
+    ("bit 1 above bit 31", 10),
     ("refused with 1", 12),
     ("refused with 4", 1),
     ("refused with 6", 1),
@@ -72,7 +76,8 @@ fn main() {
     };
     let mut counts = BTreeMap::new();
     for module in 1..=modules {
-        write(&format!("Carries{module}"), draw_rows(module as u64 * 1_000, &mut counts));
+        let seed = SEED + module as u64 * 1_000;
+        write(&format!("Carries{module}"), draw_rows(seed, &mut counts));
     }
     write("CarryNumbers", number_rows());
     for (form, least) in LEAST {

@@ -1,35 +1,35 @@
 //! Writes texts and what the Rust version prints for them into a folder: `program_cases FOLDER SEED
-//! COUNT`, COUNT generated pairs from SEED on, half as many with RESET fields, about half as many in turn,
-//! one for each fault and change, and those at the limits. A pair is NAME.net and NAME.plan; `read` must
+//! COUNT`, COUNT generated pairs from SEED on, half as many with RESET fields and with long registers each,
+//! about half as many in turn, one for each fault and change, and those at the limits. A pair is NAME.net and NAME.plan; `read` must
 //! print NAME.read and `plan` NAME.planned for the first, `clock` NAME.clk for the second, `mark` NAME.mark
 //! and `carry` NAME.carry for both. The script tests/programs runs the built programs on them.
+
+mod program_limits;
 
 use std::collections::BTreeSet;
 use std::path::Path;
 
 use penthluk_reference::generate::carry_cases::carry_chain;
 use penthluk_reference::generate::cases::{case, damaged_with, draw_network, Case};
-use penthluk_reference::generate::draft::{Draft, Entry};
-use penthluk_reference::generate::edges::{held_chain, long_network, plan_line};
+use penthluk_reference::generate::damage::Damaged;
+use penthluk_reference::generate::draft::Draft;
+use penthluk_reference::generate::edges::plan_line;
 use penthluk_reference::generate::exercises::Exercise;
 use penthluk_reference::generate::faults::{Fault, FAULTS, RESET_FAULTS};
-use penthluk_reference::generate::large::{chain, full, steered};
-use penthluk_reference::generate::maze::gray;
+use penthluk_reference::generate::large::full;
+use penthluk_reference::generate::long_cases::{
+    long_case, long_damaged_with, long_random, LONG_FAULTS,
+};
 use penthluk_reference::generate::near::{near, Change, CHANGES};
 use penthluk_reference::generate::plan_damage::{damage_plan, PLAN_FAULTS};
 use penthluk_reference::generate::plans::planned;
 use penthluk_reference::generate::random::Random;
-use penthluk_reference::generate::reset_cases::{
-    held_reset_chain, long_reset, long_reset_chain, reset_case, reset_chain, reset_damaged_with,
-    reset_random,
-};
-use penthluk_reference::generate::rounds::many_rounds;
-use penthluk_reference::limits::{
-    MAX_NETWORK_BITS, MAX_NETWORK_BYTES, MAX_NODES, MAX_OPERATIONS, MAX_PLAN_BYTES, MAX_TARGETS,
-};
+use penthluk_reference::generate::reset_cases::{reset_case, reset_damaged_with, reset_random};
+use penthluk_reference::limits::{MAX_NETWORK_BYTES, MAX_NODES, MAX_PLAN_BYTES, MAX_TARGETS};
 use penthluk_reference::plan_text::write_plan;
 use penthluk_reference::programs;
 use penthluk_reference::reader::read_network;
+use program_limits::{all_on_path, long_limits, network_limits, plan_limits, reset_limits};
 
 /// Two texts and what the programs print for them.
 struct Pair {
@@ -94,8 +94,9 @@ fn main() {
     let random = &mut Random::new(seed);
     let old = |seed| generated("seed", seed, case(seed));
     let reset = |seed| generated("seed-reset", seed, reset_case(seed));
+    let long = |seed| generated("seed-long", seed, long_case(seed));
     let mut pairs: Vec<Pair> = (seed..seed + count).map(old).collect();
-    pairs.extend(FAULTS.map(|fault| faulty(random, fault)));
+    pairs.extend(FAULTS.map(|fault| faulty("fault", random, fault, damaged_with)));
     pairs.extend(faulty_plans(random));
     pairs.extend(CHANGES.map(|change| changed(random, change)));
     pairs.extend((0..=MAX_TARGETS).map(|reads| all_on_path(random, reads)));
@@ -104,8 +105,12 @@ fn main() {
     pairs.extend((seed..seed + count / 2).map(reset));
     pairs.extend((seed..seed + count / 5).flat_map(generated_chain));
     let random = &mut reset_random(seed);
-    pairs.extend(RESET_FAULTS.map(|fault| faulty_reset(random, fault)));
+    pairs.extend(RESET_FAULTS.map(|fault| faulty("fault", random, fault, reset_damaged_with)));
     pairs.extend(reset_limits(random));
+    pairs.extend((seed..seed + count / 2).map(long));
+    let random = &mut long_random(seed);
+    pairs.extend(LONG_FAULTS.map(|fault| faulty("fault-long", random, fault, long_damaged_with)));
+    pairs.extend(long_limits(random));
     assert_covered(&pairs);
     pairs.iter().for_each(|pair| pair.write(Path::new(folder)));
 }
@@ -123,18 +128,16 @@ fn generated_chain(seed: u64) -> Vec<Pair> {
 }
 
 /// A network with one fault.
-fn faulty(random: &mut Random, fault: Fault) -> Pair {
-    let (damaged, put) = damaged_with(random, &[fault]);
-    assert_eq!(put, 1);
-    Pair::new(format!("fault-{fault:?}"), damaged.text(), plan_line(3))
-}
-
-/// A network with RESET fields and one fault at one of them.
-fn faulty_reset(random: &mut Random, fault: Fault) -> Pair {
+fn faulty(
+    name: &str,
+    random: &mut Random,
+    fault: Fault,
+    damaged_with: fn(&mut Random, &[Fault]) -> (Damaged, usize),
+) -> Pair {
     loop {
-        let (damaged, put) = reset_damaged_with(random, &[fault]);
+        let (damaged, put) = damaged_with(random, &[fault]);
         if put == 1 {
-            return Pair::new(format!("fault-{fault:?}"), damaged.text(), plan_line(3));
+            return Pair::new(format!("{name}-{fault:?}"), damaged.text(), plan_line(3));
         }
     }
 }
@@ -160,90 +163,6 @@ fn changed(random: &mut Random, change: Change) -> Pair {
             return Pair::new(format!("change-{change:?}"), text, write_plan(&plan));
         }
     }
-}
-
-/// Operations of random bits.
-fn operations(random: &mut Random, count: usize, bits: usize) -> Vec<u8> {
-    let line = |_| (0..bits).map(|_| random.bit()).collect();
-    write_plan(&(0..count).map(line).collect::<Vec<_>>())
-}
-
-/// 128 segments and 4,000 bits in a row, so many segments to read and four operations for each.
-/// Four give the longest plan text.
-fn all_on_path(random: &mut Random, reads: usize) -> Pair {
-    let mut draft = chain(MAX_NODES, MAX_NETWORK_BITS);
-    let segments = [128, 1, 100, 50];
-    draft.entries = segments[..reads].iter().map(|&segment| Entry::Read { segment }).collect();
-    let plan = operations(random, 4 * reads, MAX_NETWORK_BITS);
-    Pair::new(format!("all-on-path-{reads}"), draft.text(), plan)
-}
-
-/// Network texts at the limits of length and count, and beyond them.
-fn network_limits(random: &mut Random) -> Vec<Pair> {
-    let one = || plan_line(1);
-    // A last line that holds segment 1 again.
-    let held = held_chain(random).text();
-    let filled = |length: usize| {
-        let mut text = [&held[..], b"hold\t1\t"].concat();
-        text.resize(length - 1, b'0');
-        [text, b"\n".to_vec()].concat()
-    };
-    vec![
-        Pair::new("empty", Vec::new(), Vec::new()),
-        Pair::new("no-node", b"out\t0\n".to_vec(), Vec::new()),
-        Pair::new("held", held.clone(), operations(random, 3, MAX_NETWORK_BITS)),
-        Pair::new("held-longest", filled(MAX_NETWORK_BYTES), one()),
-        Pair::new("held-too-long", filled(MAX_NETWORK_BYTES + 1), one()),
-        Pair::new("bits-longest", long_network(MAX_NETWORK_BYTES), one()),
-        Pair::new("bits-too-long", long_network(MAX_NETWORK_BYTES + 1), one()),
-        Pair::new("node-129", chain(MAX_NODES + 1, MAX_NODES + 1).text(), one()),
-        Pair::new("bit-4001", chain(MAX_NODES, MAX_NETWORK_BITS + 1).text(), one()),
-        Pair::planned("steering-6", steered(6)),
-        Pair::planned("steering-7", steered(7)),
-        Pair::planned("full", full()),
-    ]
-}
-
-/// Network texts with RESET fields at the limits of length and count, and beyond them.
-fn reset_limits(random: &mut Random) -> Vec<Pair> {
-    let one = || plan_line(1);
-    let held = held_reset_chain(random);
-    vec![
-        Pair::planned("reset-held", held),
-        Pair::new("reset-held-longest", long_reset_chain(random, MAX_NETWORK_BYTES), one()),
-        Pair::new("reset-held-too-long", long_reset_chain(random, MAX_NETWORK_BYTES + 1), one()),
-        Pair::new("reset-longest", long_reset(MAX_NETWORK_BYTES), one()),
-        Pair::new("reset-too-long", long_reset(MAX_NETWORK_BYTES + 1), one()),
-        Pair::new(
-            "reset-node-129",
-            reset_chain(random, MAX_NODES + 1, MAX_NODES + 1).text(),
-            one(),
-        ),
-        Pair::new(
-            "reset-bit-4001",
-            reset_chain(random, MAX_NODES, MAX_NETWORK_BITS + 1).text(),
-            one(),
-        ),
-    ]
-}
-
-/// Plan texts at the limits of length and count, and beyond them.
-fn plan_limits(random: &mut Random) -> Vec<Pair> {
-    let long = chain(MAX_NODES, MAX_NETWORK_BITS).text();
-    let short = chain(1, 1).text();
-    let longest = operations(random, MAX_OPERATIONS, MAX_NETWORK_BITS);
-    let too_long = [&longest[..longest.len() - 1], b"1\n"].concat();
-    vec![
-        Pair::new("plan-longest", long.clone(), longest),
-        Pair::new("plan-too-long", long, too_long),
-        Pair::new("line-longest", short.clone(), plan_line(MAX_PLAN_BYTES - 5)),
-        Pair::new("line-too-long", short.clone(), plan_line(MAX_PLAN_BYTES - 4)),
-        Pair::new("line-16", short.clone(), operations(random, MAX_OPERATIONS, 1)),
-        Pair::new("line-17", short, operations(random, MAX_OPERATIONS + 1, 1)),
-        Pair::planned("operations-16", gray(16, Some(&"01".repeat(16)), &[32; 108])),
-        Pair::planned("operations-17", gray(17, None, &[])),
-        Pair::planned("many-rounds", many_rounds()),
-    ]
 }
 
 fn line_count(text: &[u8]) -> usize {
@@ -289,6 +208,18 @@ fn assert_covered(pairs: &[Pair]) {
         has(&|pair| long(pair) && pair.read.starts_with(b"ok\t128\t4000\t"))
     };
     assert!(accepted("held", 6_500) && accepted("reset-held", 10_500));
+    let long = |name: &str, network_bytes: usize, read: &str, plan_bytes: usize| {
+        let named = |pair: &Pair| pair.name == name && pair.network.len() > network_bytes;
+        has(&|pair| named(pair) && pair.read == read.as_bytes() && pair.plan.len() >= plan_bytes)
+    };
+    assert!(long("long-row", 600, "ok\t63\t4000\t0\t4000\n", MAX_PLAN_BYTES));
+    assert!(long("long-held", 5_000, "ok\t63\t4000\t0\t4000\n", 4_005));
+    assert!(long("long-reset-held", 9_000, "ok\t63\t4000\t0\t4000\n", 4_005));
+    assert!(long("long-operations-16", 600, "ok\t81\t3972\t4\t3905\n", 62_600));
+    assert!(
+        has(&|pair| pair.name == "long-choices" && pair.read.starts_with(b"ok\t66\t4000\t6\t"))
+    );
+    assert!(long("length-65", 0, "fail\t2\t1\n", 0));
     let plan = |bytes: usize, gots: usize, printed: &str| {
         has(&|pair| {
             let passes = pair.gots() == Some(gots) && pair.mark.starts_with(printed.as_bytes());

@@ -1,11 +1,14 @@
 //! "Limits: 128 nodes, 4,000 segment bits in all, 4 targets, 16,384 bytes of text. Plans: 16
-//! operations, 64,080 bytes. Planner: 6 distinct steering bits."
+//! operations, 64,080 bytes. Planner: 6 distinct steering bits." "Registers up to 64 bits."
 
 /// "128 nodes"
 pub const MAX_NODES: usize = 128;
 
-/// "a segment of 1 to 32 bits"
-pub const MAX_SEGMENT_BITS: usize = 32;
+/// "LEN may be 64, and 65 is refused as 33 was" (document 02, Change 4)
+pub const MAX_SEGMENT_BITS: usize = 64;
+
+/// "a segment of 1 to 32 bits": the greatest LEN before Change 4
+pub const EARLIER_SEGMENT_BITS: usize = 32;
 
 /// "4,000 segment bits in all"
 pub const MAX_NETWORK_BITS: usize = 4_000;

@@ -10,9 +10,10 @@ pub type Configuration = Vec<Vec<Bit>>;
 /// line number; 0 is scan-in."
 #[derive(Clone, Debug, PartialEq, Eq)]
 pub enum Node {
-    /// "`seg FROM LEN KIND`: a segment of 1 to 32 bits. KIND is `s` (with shadow register) or `p`
-    /// (plain)." "A `seg` line gets a last field RESET, LEN characters of `0`, `1` or `X`, highest
-    /// bit first"; here it stands bit 0 first, and there is none in "the old form".
+    /// "`seg FROM LEN KIND`: a segment of 1 to 32 bits", and "LEN may be 64". "KIND is `s` (with
+    /// shadow register) or `p` (plain)." "A `seg` line gets a last field RESET, LEN characters of
+    /// `0`, `1` or `X`, highest bit first"; here it stands bit 0 first, and there is none in "the old
+    /// form".
     Segment { from: usize, len: usize, shadow: bool, reset: Option<Vec<Bit>> },
     /// "`mux SEG BIT A B [C [D]]`: 2 to 4 inputs, numbered from 0."
     Multiplexer { seg: usize, bit: usize, inputs: Vec<usize> },

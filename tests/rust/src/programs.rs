@@ -18,7 +18,12 @@ use crate::steering::steering_bits;
 /// The read program. Document 01 names no line for an accepted network; it prints `ok` and the
 /// counts of nodes, segment bits, distinct steering bits and the length of the start's path.
 pub fn read(network_text: &[u8]) -> Vec<u8> {
-    printed(read_network(network_text).map(|network| numbers("ok", &counts(&network))))
+    shown(read_network(network_text))
+}
+
+/// The line of a reading.
+pub fn shown(result: Result<Network, Refusal>) -> Vec<u8> {
+    printed(result.map(|network| numbers("ok", &counts(&network))))
 }
 
 /// "The plan program prints the plan".

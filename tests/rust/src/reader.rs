@@ -15,10 +15,15 @@ use crate::text::{lines, Line};
 /// "Order: text length; then line by line 1, 4, 2, 3, 6, 7, 8; 5 follows 2 on the `out` line; a
 /// missing `out` at the end; then 9." 18 comes "directly after 2".
 pub fn read_network(text: &[u8]) -> Result<Network, Refusal> {
+    read_network_up_to(MAX_SEGMENT_BITS, text)
+}
+
+/// The same with this greatest LEN.
+pub fn read_network_up_to(most: usize, text: &[u8]) -> Result<Network, Refusal> {
     if text.len() > MAX_NETWORK_BYTES {
         return Err(Refusal::new(SIZE, 0));
     }
-    let mut reading = Reading::default();
+    let mut reading = Reading { most, ..Reading::default() };
     let mut last_line = 0;
     for line in lines(text) {
         reading.take_line(line)?;
@@ -30,6 +35,8 @@ pub fn read_network(text: &[u8]) -> Result<Network, Refusal> {
 /// What the lines read so far have given.
 #[derive(Default)]
 struct Reading {
+    /// The greatest LEN.
+    most: usize,
     nodes: Vec<Node>,
     network_bits: usize,
     out: Option<usize>,
@@ -54,7 +61,7 @@ impl Reading {
         if self.out.is_some() {
             return Err(Refusal::new(ORDER, line));
         }
-        if !in_bounds(&node, self.nodes.len() + 1) {
+        if !in_bounds(&node, self.nodes.len() + 1, self.most) {
             return Err(Refusal::new(BOUNDS, line));
         }
         if let Node::Segment { len, reset, .. } = &node {
@@ -133,10 +140,11 @@ impl Reading {
     }
 }
 
-/// "FROM and mux inputs are smaller than the node's own number"; "a segment of 1 to 32 bits".
-fn in_bounds(node: &Node, number: usize) -> bool {
+/// "FROM and mux inputs are smaller than the node's own number"; a segment has a bit and at most the
+/// greatest LEN: "65 is refused as 33 was".
+fn in_bounds(node: &Node, number: usize, most: usize) -> bool {
     match node {
-        Node::Segment { from, len, .. } => *from < number && (1..=MAX_SEGMENT_BITS).contains(len),
+        Node::Segment { from, len, .. } => *from < number && (1..=most).contains(len),
         Node::Multiplexer { inputs, .. } => inputs.iter().all(|input| *input < number),
     }
 }

@@ -53,11 +53,13 @@ fn drawn_networks() {
 fn order_of_bits() {
     let network = ["seg 0 3 s", "seg 1 2 s", "out 2"];
     prints(&network, &[], &["csu 10110"], &["hold 1 011", "hold 2 01"]);
-    let first = "1".to_string() + &"0".repeat(31);
-    let last = "0".repeat(31) + "1";
-    let (csu, hold) = (format!("csu {first}"), format!("hold 1 {last}"));
-    prints(&["seg 0 32 s", "out 1"], &[], &[&csu], &[&hold]);
-    prints(&["seg 0 32 p", "out 1"], &[], &[&csu], &[&hold]);
+    for len in [32, 33, 63, 64] {
+        let zeros = "0".repeat(len - 1);
+        let (csu, hold) = (format!("csu 1{zeros}"), format!("hold 1 {zeros}1"));
+        for kind in ["s", "p"] {
+            prints(&[&format!("seg 0 {len} {kind}"), "out 1"], &[], &[&csu], &[&hold]);
+        }
+    }
     prints(&["seg 0 1 p", "out 1"], &[], &["csu 1"], &["hold 1 1"]);
 }
 
@@ -118,7 +120,7 @@ fn refusals() -> Vec<Refused> {
         network(text(&["seg 0 4 s", "out 1", "hold 1 0x01"]), 1, 3),
         network(b"out\t0".to_vec(), 1, 1),
         network(text(&["seg 1 4 s", "out 1"]), 2, 1),
-        network(text(&["seg 0 33 s", "out 1"]), 2, 1),
+        network(text(&["seg 0 65 s", "out 1"]), 2, 1),
         network(chain(129, 129).text(), 3, 129),
         network(chain(128, 4_001).text(), 3, 128),
         network(long_network(MAX_NETWORK_BYTES + 1), 3, 0),

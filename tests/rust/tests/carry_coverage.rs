@@ -11,7 +11,7 @@ const CHAINS: u64 = 2_000;
 
 /// What an exercise that passes must have, and how many at least have it among the cases and among the
 /// exercises that go on from another one.
-const WANTED: [(&str, usize, usize); 26] = [
+const WANTED: [(&str, usize, usize); 29] = [
     ("no operation", 500, 500),
     ("one operation", 400, 500),
     ("two operations", 400, 400),
@@ -27,6 +27,7 @@ const WANTED: [(&str, usize, usize); 26] = [
     ("number of three digits", 400, 350),
     ("segment of one bit", 2_000, 1_900),
     ("segment of 32 bits", 1_100, 1_000),
+    ("segment of 64 bits", 1_000, 1_000),
     ("multiplexer, which has no line", 2_000, 1_700),
     ("no segment", 60, 40),
     ("128 segments", 12, 1),
@@ -38,6 +39,8 @@ const WANTED: [(&str, usize, usize); 26] = [
     ("bit turned", 1_600, 1_500),
     ("known bits only", 1_600, 1_700),
     ("X and known bits in one segment", 400, 200),
+    ("X above bit 31", 350, 180),
+    ("bit 1 above bit 31", 1_000, 1_000),
 ];
 
 /// How often each form came, and each number; number 0 is a pass.

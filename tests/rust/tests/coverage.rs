@@ -2,6 +2,7 @@
 
 use penthluk_reference::clocks::write_clocks;
 use penthluk_reference::generate::cases::{case, Case};
+use penthluk_reference::generate::long_cases::long_case;
 use penthluk_reference::generate::reset_cases::reset_case;
 use penthluk_reference::limits::{MAX_PLAN_BYTES, SEARCH_ENTRIES};
 use penthluk_reference::marker::mark;
@@ -61,11 +62,16 @@ fn every_refusal_comes_with_resets() {
     check_counts(reset_case, &[18]);
 }
 
+#[test]
+fn every_refusal_comes_with_long_registers() {
+    check_counts(long_case, &[18]);
+}
+
 /// A seed always gives the same case.
 #[test]
 fn cases_repeat() {
     for seed in 0..200 {
-        for draw in [case, reset_case] {
+        for draw in [case, reset_case, long_case] {
             let (first, second) = (draw(seed), draw(seed));
             assert_eq!((first.network, first.plan), (second.network, second.plan));
         }
@@ -81,7 +87,7 @@ fn fail_line(refusal: Refusal) -> Vec<u8> {
 fn programs_agree_with_calls() {
     let mut search = vec![0; SEARCH_ENTRIES];
     let mut plan = vec![0; MAX_PLAN_BYTES];
-    for case in (0..2_000).flat_map(|seed| [case(seed), reset_case(seed)]) {
+    for case in (0..2_000).flat_map(|seed| [case(seed), reset_case(seed), long_case(seed)]) {
         let read = programs::read(&case.network);
         match read_network(&case.network) {
             Ok(network) => {

@@ -92,10 +92,12 @@ fn out_alone() {
     assert_eq!(clock(b""), b"");
 }
 
+/// "LEN 32 is read"; "LEN may be 64, and 65 is refused as 33 was".
 #[test]
 fn segment_lengths() {
     assert_eq!(read(&text(&["seg 0 32 s", "out 1"])), text(&["ok 1 32 0 32"]));
-    assert_eq!(read(&text(&["seg 0 33 s", "out 1"])), text(&["fail 2 1"]));
+    assert_eq!(read(&text(&["seg 0 64 s", "out 1"])), text(&["ok 1 64 0 64"]));
+    assert_eq!(read(&text(&["seg 0 65 s", "out 1"])), text(&["fail 2 1"]));
 }
 
 #[test]

@@ -5,16 +5,17 @@ mod common;
 
 use common::{accepted, plan_text};
 use penthluk_reference::brute::{first_filled_plan, least_operations};
+use penthluk_reference::generate::long_registers::stretch;
 use penthluk_reference::generate::maze::{gray, maze, GrayWalk};
 use penthluk_reference::generate::random::Random;
 use penthluk_reference::generate::reset_cases::give_resets;
 use penthluk_reference::generate::sib::{sib_chain, sib_tree, Size};
 use penthluk_reference::generate::tiny::tiny;
 use penthluk_reference::generate::unknown::make_unknown;
-use penthluk_reference::limits::{MAX_OPERATIONS, MAX_STEERING_BITS};
+use penthluk_reference::limits::{MAX_OPERATIONS, MAX_SEGMENT_BITS, MAX_STEERING_BITS};
 use penthluk_reference::network::Network;
 use penthluk_reference::path::walk;
-use penthluk_reference::plan_text::write_plan;
+use penthluk_reference::plan_text::{parse_plan, write_plan};
 use penthluk_reference::reader::read_network;
 use penthluk_reference::refusal::{Refusal, NO_PLAN};
 use penthluk_reference::steering::steering_bits;
@@ -150,6 +151,41 @@ fn networks_with_resets() {
     assert!(tally.unknown_steering > 700 && tally.other_path > 2_000, "{tally:?}");
     assert!(tally.least[..6].iter().all(|&count| count > 20), "{tally:?}");
     assert!(tally.none > 2_000, "{tally:?}");
+}
+
+/// A network with longer registers, whose paths lead over the same segments, needs as many operations as
+/// the short one.
+#[test]
+fn networks_with_long_registers() {
+    let random = &mut Random::new(306);
+    let mut least = [0; 5];
+    let (mut none, mut upper) = (0, 0);
+    for _ in 0..8_000 {
+        let mut draft = if random.bit() { tiny(random, 7) } else { maze(random, 3, 1) };
+        if random.bit() {
+            give_resets(random, &mut draft);
+        }
+        let Ok(short) = read_network(&draft.text()) else { continue };
+        if !is_small(&short) {
+            continue;
+        }
+        stretch(random, &mut draft, MAX_SEGMENT_BITS);
+        let text = draft.text();
+        let long = read_network(&text).expect("it is accepted too");
+        assert_eq!(walk(&long, &long.start), walk(&short, &short.start));
+        let planned = plan_text(&text).and_then(|plan| parse_plan(&plan));
+        let operations = planned.map(|plan| plan.len());
+        let expected = least_operations(&short).ok_or(Refusal::new(NO_PLAN, 0));
+        assert_eq!(operations, expected, "{}", String::from_utf8_lossy(&text));
+        upper += usize::from(steering_bits(&long.nodes).iter().any(|&(_, bit)| bit >= 32));
+        match expected {
+            Ok(count @ 0..=4) => least[count] += 1,
+            Ok(_) => {}
+            Err(_) => none += 1,
+        }
+    }
+    assert!(upper > 3_000 && none > 500, "{upper}, {none}");
+    assert!(least.iter().all(|&count| count > 20), "{least:?}");
 }
 
 /// Every least number from 1 to 16, and 17, which is refused.

@@ -17,7 +17,7 @@ use penthluk_reference::marker::mark;
 use penthluk_reference::plan_text::{parse_plan, write_plan};
 use penthluk_reference::play::check_pass;
 use penthluk_reference::programs;
-use penthluk_reference::reader::read_network;
+use penthluk_reference::reader::{read_network, read_network_up_to};
 use penthluk_reference::refusal::Refusal;
 
 #[test]
@@ -46,21 +46,71 @@ fn segment_bits() {
     assert_eq!(programs::read(&full().text()), text(&["ok 128 4000 6 4000"]));
 }
 
+/// 62 segments of 64 bits have 3,968.
+#[test]
+fn segment_bits_of_long_registers() {
+    let chain_and = |len: usize| {
+        let mut draft = chain(62, 62 * 64);
+        draft.out = draft.segment(62, len, true);
+        draft.text()
+    };
+    assert_eq!(programs::read(&chain_and(32)), text(&["ok 63 4000 0 4000"]));
+    for len in [33, 63, 64] {
+        assert_eq!(read_network(&chain_and(len)), refused(3, 63), "{len}");
+    }
+    assert_eq!(read_network(&chain_and(65)), refused(2, 63));
+}
+
 #[test]
 fn segment_length() {
-    for (len, accepted) in [(0, false), (1, true), (32, true), (33, false), (9999, false)] {
-        let line = format!("seg 0 {len} p");
-        let result = read_network(&text(&[&line, "out 1"]));
-        assert_eq!(result.is_ok(), accepted);
-        assert!(accepted || result == refused(2, 1));
+    for (len, accepted) in [
+        (0, false),
+        (1, true),
+        (31, true),
+        (32, true),
+        (33, true),
+        (63, true),
+        (64, true),
+        (65, false),
+        (66, false),
+        (96, false),
+        (128, false),
+        (256, false),
+        (257, false),
+        (9999, false),
+    ] {
+        for kind in ["s", "p"] {
+            let line = format!("seg 0 {len} {kind}");
+            let result = read_network(&text(&[&line, "out 1"]));
+            assert_eq!(result.is_ok(), accepted, "{line}");
+            assert!(accepted || result == refused(2, 1), "{line}");
+            // at its own line
+            let second = read_network(&text(&["seg 0 64 s", &line, "out 2"]));
+            assert!(second.is_ok() == accepted && (accepted || second == refused(2, 2)), "{line}");
+        }
+    }
+}
+
+/// The greatest LEN is the one given, whatever it is.
+#[test]
+fn segment_length_up_to() {
+    for most in [1, 31, 32, 33, 63, 64] {
+        for len in 0..=70 {
+            let network = text(&["seg 0 1 s", &format!("seg 1 {len} p"), "out 2"]);
+            let result = read_network_up_to(most, &network);
+            match len {
+                _ if (1..=most).contains(&len) => assert_eq!(result, read_network(&network)),
+                _ => assert_eq!(result, refused(2, 2), "{len}, {most}"),
+            }
+        }
     }
 }
 
 /// A RESET has LEN characters, whatever LEN is.
 #[test]
 fn reset_length() {
-    for len in 1..=32 {
-        for length in [1, len - 1, len, len + 1, 32, 33, 64, 9_999] {
+    for len in 1..=64 {
+        for length in [1, len - 1, len, len + 1, 32, 33, 64, 65, 128, 9_999] {
             let line = format!("seg 0 {len} p {}", "X".repeat(length));
             let result = read_network(&text(&[&line, "out 1"]));
             match length {
@@ -118,6 +168,26 @@ fn multiplexer_inputs_and_address() {
     assert_eq!(network("mux 1 0 0 1 1 1 1"), refused(1, 2));
 }
 
+/// The highest address of a segment: its last bit for two inputs, its last two bits for more.
+#[test]
+fn highest_address() {
+    for len in [31, 32, 33, 63, 64] {
+        let network = |bit: usize, inputs: &str| {
+            let (segment, multiplexer) =
+                (format!("seg 0 {len} s"), format!("mux 1 {bit} {inputs}"));
+            read_network(&text(&[&segment, &multiplexer, "out 2"]))
+        };
+        for (inputs, width) in [("0 1", 1), ("0 1 1", 2), ("0 1 1 0", 2)] {
+            for bit in 0..=len - width {
+                assert!(network(bit, inputs).is_ok(), "{len}, {bit}, {inputs}");
+            }
+            for bit in [len + 1 - width, len, len + 1, len + 64, 127, 128, 9_999] {
+                assert_eq!(network(bit, inputs), refused(5, 2), "{len}, {bit}, {inputs}");
+            }
+        }
+    }
+}
+
 #[test]
 fn targets() {
     let nodes = ["seg 0 1 s", "seg 1 1 s", "seg 2 1 s", "out 3"];
@@ -165,6 +235,7 @@ fn steering_bits() {
     }
     assert_eq!(plan_text(&steered(7).text()), refused(10, 7));
     assert_eq!(plan_text(&steered(32).text()), refused(10, 32));
+    assert_eq!(plan_text(&steered(64).text()), refused(10, 64));
 }
 
 #[test]
@@ -218,5 +289,10 @@ fn long_plans() {
     let network = draft.text();
     let plan = plan_text(&network).expect("there is a plan");
     assert_eq!(plan.len(), 15 * (108 * 32 + 1 + 5) + 109 * 32 + 5);
+    assert_eq!(mark(&network, &plan).map(|pass| pass.clocks), Ok(plan.len()));
+    // of 3,900 bits and more with long registers
+    let network = gray(16, Some(&"001".repeat(21)), &[64; 61]).text();
+    let plan = plan_text(&network).expect("there is a plan");
+    assert_eq!(plan.len(), 15 * (61 * 64 + 1 + 5) + 61 * 64 + 63 + 5);
     assert_eq!(mark(&network, &plan).map(|pass| pass.clocks), Ok(plan.len()));
 }

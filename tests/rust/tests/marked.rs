@@ -2,18 +2,24 @@
 
 mod common;
 
-use common::accepted;
+use common::{accepted, refused};
 use penthluk_reference::clocks::write_clocks;
 use penthluk_reference::controller::State;
 use penthluk_reference::generate::cases::{draw_network, draw_plan};
+use penthluk_reference::generate::exercises::draw_exercise;
+use penthluk_reference::generate::long_cases::draw_long_network;
+use penthluk_reference::generate::long_registers::longest_row;
+use penthluk_reference::generate::near::{near, Change, CHANGES};
+use penthluk_reference::generate::plans::wander;
 use penthluk_reference::generate::random::Random;
 use penthluk_reference::generate::reset_cases::draw_reset_network;
 use penthluk_reference::generate::tiny::tiny;
-use penthluk_reference::limits::MAX_PLAN_BYTES;
+use penthluk_reference::limits::{MAX_OPERATIONS, MAX_PLAN_BYTES};
 use penthluk_reference::marker::mark;
 use penthluk_reference::network::Network;
-use penthluk_reference::plan_text::write_plan;
+use penthluk_reference::plan_text::{parse_plan, write_plan};
 use penthluk_reference::play::{check_pass, play};
+use penthluk_reference::reader::read_network;
 use penthluk_reference::refusal::{BIT_COUNT, CONFIGURATION, TARGET};
 
 /// How often each verdict came.
@@ -106,4 +112,42 @@ fn networks_with_resets() {
     assert!(verdicts.bit_count > 100, "{verdicts:?}");
     assert!(verdicts.configuration > 50, "{verdicts:?}");
     assert!(verdicts.target > 200, "{verdicts:?}");
+}
+
+#[test]
+fn networks_with_long_registers() {
+    let verdicts = check_marks(204, 4_000, |random| draw_long_network(random).text());
+    assert!(verdicts.passes > 1_000, "{verdicts:?}");
+    assert!(verdicts.passes_with_targets > 500, "{verdicts:?}");
+    assert!(verdicts.passes_with_operations > 800, "{verdicts:?}");
+    assert!(verdicts.bit_count > 100, "{verdicts:?}");
+    assert!(verdicts.configuration > 50, "{verdicts:?}");
+    assert!(verdicts.target > 200, "{verdicts:?}");
+}
+
+/// Where a change of a plan that passes settles the refusal, that one comes.
+#[test]
+fn near_plans() {
+    let random = &mut Random::new(205);
+    let mut settled = 0;
+    for _ in 0..1_000 {
+        let exercise = draw_exercise(random);
+        let network = read_network(&exercise.network).expect("it is accepted");
+        let plan = parse_plan(&exercise.plan).expect("it is of good form");
+        for change in CHANGES {
+            if let Some((plan, Some(refusal))) = near(random, &network, &plan, change) {
+                assert_eq!(mark(&exercise.network, &write_plan(&plan)), Err(refusal), "{change:?}");
+                settled += 1;
+            }
+        }
+    }
+    assert!(settled > 1_000, "{settled}");
+    // one bit more in the longest plan
+    let text = longest_row(random).text();
+    let network = read_network(&text).expect("it is accepted");
+    let plan = wander(random, &network, MAX_OPERATIONS, 0);
+    assert_eq!(mark(&text, &write_plan(&plan)).map(|pass| pass.clocks), Ok(MAX_PLAN_BYTES));
+    let (longer, expected) = near(random, &network, &plan, Change::Longer).expect("a change");
+    assert_eq!(mark(&text, &write_plan(&longer)), refused(14, 0));
+    assert_eq!(expected, refused::<()>(14, 0).err());
 }

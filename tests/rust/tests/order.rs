@@ -7,6 +7,7 @@ use common::{refused, text};
 use penthluk_reference::generate::cases::damaged_with;
 use penthluk_reference::generate::damage::Damaged;
 use penthluk_reference::generate::faults::{all_faults, Fault, FAULTS, RESET_FAULTS};
+use penthluk_reference::generate::long_cases::{draw_long_faults, long_damaged_with};
 use penthluk_reference::generate::plan_damage::{damage_plan, PLAN_FAULTS};
 use penthluk_reference::generate::random::Random;
 use penthluk_reference::generate::reset_cases::reset_damaged_with;
@@ -28,6 +29,12 @@ fn check_with_resets(random: &mut Random, faults: &[Fault]) -> (Option<Refusal>,
     compare(damaged, faults)
 }
 
+/// As `check`, where the segments have 63 and 64 bits.
+fn check_long(random: &mut Random, faults: &[Fault]) -> (Option<Refusal>, usize) {
+    let damaged = long_damaged_with(random, faults);
+    compare(damaged, faults)
+}
+
 fn compare((damaged, put): (Damaged, usize), faults: &[Fault]) -> (Option<Refusal>, usize) {
     let text = damaged.text();
     let refusal = read_network(&text).err();
@@ -41,6 +48,7 @@ fn no_fault() {
     for _ in 0..200 {
         assert_eq!(check(random, &[]), (None, 0));
         assert_eq!(check_with_resets(random, &[]), (None, 0));
+        assert_eq!(check_long(random, &[]), (None, 0));
     }
 }
 
@@ -58,18 +66,20 @@ fn one_fault() {
 }
 
 #[test]
-fn one_fault_with_resets() {
+fn one_fault_with_resets_and_long_registers() {
     let random = &mut Random::new(404);
     for fault in all_faults() {
-        let mut decided = 0;
-        for _ in 0..100 {
-            let (refusal, put) = check_with_resets(random, &[fault]);
-            if put == 1 {
-                assert_eq!(refusal.map(|refusal| refusal.number), Some(fault.number()));
-                decided += 1;
+        for check in [check_with_resets, check_long] {
+            let mut decided = 0;
+            for _ in 0..100 {
+                let (refusal, put) = check(random, &[fault]);
+                if put == 1 {
+                    assert_eq!(refusal.map(|refusal| refusal.number), Some(fault.number()));
+                    decided += 1;
+                }
             }
+            assert!(decided >= 50, "{fault:?}: {decided}");
         }
-        assert!(decided >= 50, "{fault:?}: {decided}");
     }
 }
 
@@ -132,6 +142,31 @@ fn two_faults_with_resets() {
     }
 }
 
+/// Pairs of faults where the segments are long, one of them most often at a length or an upper bit.
+#[test]
+fn two_faults_with_long_registers() {
+    let random = &mut Random::new(406);
+    let mut decided = [[0; 19]; 19];
+    for _ in 0..20_000 {
+        let faults = draw_long_faults(random, 2);
+        if let (Some(refusal), 2) = check_long(random, &faults) {
+            let [one, other] = [faults[0], faults[1]].map(|fault| fault.number() as usize);
+            decided[one][other] += usize::from(refusal.number as usize == one);
+            decided[other][one] += usize::from(refusal.number as usize == other);
+        }
+    }
+    // 2, 3 and 18 come in any order, before 5, which comes before 6 to 8, which come before 9.
+    for low in [2, 3, 18] {
+        for high in [2, 3, 5, 6, 7, 8, 9, 18].into_iter().filter(|&high| high != low) {
+            assert!(decided[low][high] > 5, "{low} before {high}: {decided:?}");
+        }
+    }
+    for high in 6..=9 {
+        assert!(decided[5][high] > 5 && decided[high][5] == 0, "{high}: {decided:?}");
+        assert!(decided[high][18] == 0 && (high == 9 || decided[high][9] > 5), "{decided:?}");
+    }
+}
+
 /// Two refusals on one line, or 5 beside another number.
 #[test]
 fn one_line() {
@@ -143,11 +178,11 @@ fn one_line() {
         );
     };
     // 1 before 2, 4 and 5
-    before(&["seg 9 33 q"], 1, 1);
+    before(&["seg 9 65 q"], 1, 1);
     before(&["seg 0 1 s", "out 1", "seg 0 1"], 1, 3);
     before(&["mux 0 0 0 0", "out x"], 1, 2);
     // 4 before 2
-    before(&["seg 0 1 s", "out 1", "seg 9 33 s"], 4, 3);
+    before(&["seg 0 1 s", "out 1", "seg 9 65 s"], 4, 3);
     before(&["seg 0 1 s", "out 1", "out 9"], 4, 3);
     // 4 before 6 and 7
     before(&["seg 0 1 s", "hold 9 0"], 4, 2);
@@ -185,12 +220,12 @@ fn resets_in_order() {
     before(&["seg 0 2 s 0x0"], 1, 1);
     before(&["seg 0 2 s 0 0"], 1, 1);
     before(&["out 0", "seg 0 2 s 0"], 4, 2);
-    before(&["seg 0 1 s", "out 1", "seg 9 33 s 0"], 4, 3);
-    for line in ["seg 1 2 s 0", "seg 9999 2 s 0", "seg 0 0 s 0", "seg 0 33 s 0"] {
+    before(&["seg 0 1 s", "out 1", "seg 9 65 s 0"], 4, 3);
+    for line in ["seg 1 2 s 0", "seg 9999 2 s 0", "seg 0 0 s 0", "seg 0 65 s 0"] {
         before(&[line, "out 1"], 2, 1);
     }
     // LEN is out of bounds, though RESET is as long
-    before(&[&format!("seg 0 33 s {}", "0".repeat(33)), "out 1"], 2, 1);
+    before(&[&format!("seg 0 65 s {}", "0".repeat(65)), "out 1"], 2, 1);
     // the first line decides
     before(&["seg 0 2 s 0", "?"], 18, 1);
     before(&["?", "seg 0 2 s 0"], 1, 1);

@@ -5,6 +5,8 @@ mod common;
 use common::{accepted, plan_text};
 use penthluk_reference::generate::cases::draw_network;
 use penthluk_reference::generate::large::{full, large};
+use penthluk_reference::generate::long_cases::draw_long_network;
+use penthluk_reference::generate::long_registers::longest_choices;
 use penthluk_reference::generate::maze::gray;
 use penthluk_reference::generate::random::Random;
 use penthluk_reference::generate::reset_cases::{
@@ -67,6 +69,27 @@ fn networks_with_resets() {
     assert!(plans_of_length[..9].iter().all(|&count| count > 0), "{plans_of_length:?}");
     assert!(plans_of_length[1] > 500 && plans_of_length[2] > 500, "{plans_of_length:?}");
     assert!(check_planned(&held_reset_chain(random).text(), random).is_some());
+}
+
+#[test]
+fn networks_with_long_registers() {
+    let random = &mut Random::new(106);
+    let mut plans_of_length = [0; MAX_OPERATIONS + 1];
+    for _ in 0..3_000 {
+        let (text, _) = accepted(random, |random| draw_long_network(random).text());
+        if let Some(pass) = check_planned(&text, random) {
+            plans_of_length[pass.operations] += 1;
+        }
+    }
+    assert!(plans_of_length[..6].iter().all(|&count| count > 10), "{plans_of_length:?}");
+    assert!(plans_of_length[1] > 500 && plans_of_length[2] > 500, "{plans_of_length:?}");
+    let mut passes = 0;
+    for _ in 0..20 {
+        let mut draft = longest_choices(random);
+        draft.draw_targets(random, 10);
+        passes += usize::from(check_planned(&draft.text(), random).is_some());
+    }
+    assert!(passes > 15, "{passes}");
 }
 
 #[test]

@@ -9,7 +9,7 @@ use penthluk_reference::generate::reset_forms::reset_forms;
 const CASES: u64 = 12_000;
 
 /// What a text must have, and how many texts at least have it.
-const WANTED: [(&str, usize); 23] = [
+const WANTED: [(&str, usize); 24] = [
     ("no RESET", 400),
     ("RESET", 9_000),
     ("lines with and without RESET", 5_000),
@@ -21,6 +21,7 @@ const WANTED: [(&str, usize); 23] = [
     ("accepted, with RESET", 4_000),
     ("accepted, 128 nodes with RESET", 100),
     ("RESET of 32 bits", 200),
+    ("RESET of 64 bits", 150),
     ("RESET of a plain segment", 1_500),
     ("RESET with X", 3_000),
     ("RESET of a steering segment", 3_000),

@@ -34,7 +34,7 @@ fn form() {
     for wrong in ["s ", "s  ", "s 01 ", "s  01", "s 01 0", "s 01 01", "01", "01 s", " 01", "s01"] {
         assert_eq!(line(&format!("seg 0 2 {wrong}")), refused(1, 1), "{wrong}");
     }
-    for wrong in ["0", "X", "011", "XXX", "00000000000000000000000000000000"] {
+    for wrong in ["0", "X", "011", "XXX", &"0".repeat(32), &"0".repeat(64), &"0".repeat(66)] {
         assert_eq!(line(&format!("seg 0 2 s {wrong}")), refused(18, 1), "{wrong}");
     }
     // An unended last line

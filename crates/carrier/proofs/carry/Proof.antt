@@ -16,8 +16,8 @@ enum-told c = search needs
 
 write-holds-requires : tie.Need-write-holds-requires
 write-holds-requires c κs =
-    let told = c .before .before .before .before in
-    let marked = told .before .before .before .before .before .before in
+    let told = c .before .before .before .before .before in
+    let marked = told .before .before .before in
     let s = marked .before .before .before .before .args in
     let e = marked .mark-leaving .ensures in
     configured (s .network .now) (s .plan .now) (marked .mark-leaving .result) (e .0) _ _ (told .enum-told .given .1) (e .1)
@@ -25,7 +25,7 @@ write-holds-requires c κs =
 returns : tie.Need-returns
 returns c =
     let failed = c .before in
-    let marked = failed .before .before .before .before .before .before in
+    let marked = failed .before .before .before in
     let s = marked .before .before .before .before .args in
     not-carried (s .network .now) (s .plan .now) (marked .mark-leaving .result) (marked .mark-leaving .ensures .0) _ _ _ (failed .verdict .given .1)
 
@@ -35,8 +35,8 @@ same-length c = search needs
 returns-2 : tie.Need-returns-2
 returns-2 c =
     let wrote = c .before .before in
-    let told = wrote .before .before .before .before .before in
-    let marked = told .before .before .before .before .before .before in
+    let told = wrote .before .before .before .before .before .before in
+    let marked = told .before .before .before in
     let s = marked .before .before .before .before .args in
     let e = marked .mark-leaving .ensures in
     given (s .network .now) (s .plan .now) (marked .mark-leaving .result) (e .0) _ _ (told .enum-told .given .1) (e .1) _ _ _ (wrote .write-holds .ensures)

@@ -36,11 +36,11 @@ slice-aggregate-put-2 c = search needs
 put-requires-2 : tie.Need-put-requires-2
 put-requires-2 c κs = search needs
 
-sub-put-zeros : tie.Need-sub-put-zeros
-sub-put-zeros c = search needs
+sub-put-repeated : tie.Need-sub-put-repeated
+sub-put-repeated c = search needs
 
-put-zeros-requires : tie.Need-put-zeros-requires
-put-zeros-requires c κs = search needs
+put-repeated-requires : tie.Need-put-repeated-requires
+put-repeated-requires c κs = search needs
 
 slice-aggregate-put-3 : tie.Need-slice-aggregate-put-3
 slice-aggregate-put-3 c = search needs
@@ -60,9 +60,9 @@ returns-2 c =
     let a = w .before .before .before .before .before .args in
     let zeros = replicate {A = ℕ} (a .n - 1) 48 in
     let l : length zeros ≡ a .n - 1 = length-replicate (a .n - 1) 48 in (
-      omega (arith, w .put2 .ensures .0, k .put-zeros .ensures .0, r .ensures .0),
+      omega (arith, w .put2 .ensures .0, k .put-repeated .ensures .0, r .ensures .0),
       write-three (a .at) _ _ (bytes "100") zeros (bytes "110") (a .tms .now) (omega arith)
-          (w .put2 .ensures .0) (w .put2 .ensures .1) (k .put-zeros .ensures .0 ∙ ap (λ (m : ℕ). w .put2 .result + m) (sym l)) (k .put-zeros .ensures .1) (r .ensures .1)
+          (w .put2 .ensures .0) (w .put2 .ensures .1) (k .put-repeated .ensures .0 ∙ ap (λ (m : ℕ). w .put2 .result + m) (sym l)) (k .put-repeated .ensures .1) (r .ensures .1)
           ∙ ap (λ (row : List ℕ). writeAt (a .at) row (a .tms .now)) (sym (tms-some (a .n) some-bit)),
     )
 
@@ -76,8 +76,8 @@ write-tms-spec =
     returns
     slice-aggregate-put-2
     put-requires-2
-    sub-put-zeros
-    put-zeros-requires
+    sub-put-repeated
+    put-repeated-requires
     slice-aggregate-put-3
     put-requires-3
     same-length-2

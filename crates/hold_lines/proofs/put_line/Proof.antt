@@ -22,8 +22,8 @@ slice-aggregate-put-2 c = search needs
 put-requires-2 : tie.Need-put-requires-2
 put-requires-2 c κs = search needs
 
-put-bits-requires : tie.Need-put-bits-requires
-put-bits-requires c κs = search needs
+put-trits-requires : tie.Need-put-trits-requires
+put-trits-requires c κs = search needs
 
 slice-aggregate-put-3 : tie.Need-slice-aggregate-put-3
 slice-aggregate-put-3 c = search needs
@@ -44,7 +44,7 @@ returns c =
     let start = word .before .before .before .before in
     let s = start .args in
     puts-line (s .s) (tritsOf (s .len) (s .bits) (s .known)) (omega (arith, trits-length (s .len) (s .bits) (s .known), start .pre .1))
-    (word .put .ensures) (digits .put-number .ensures .0 .0, digits .put-number .ensures .1) (parted .put2 .ensures) (bits .put-bits .ensures .0) (ended .put3 .ensures)
+    (word .put .ensures) (digits .put-number .ensures .0 .0, digits .put-number .ensures .1) (parted .put2 .ensures) (bits .put-trits .ensures .0) (ended .put3 .ensures)
 
 pub put-line-spec : {M : Type 1} → statement M
 put-line-spec =
@@ -55,7 +55,7 @@ put-line-spec =
     put-number-requires
     slice-aggregate-put-2
     put-requires-2
-    put-bits-requires
+    put-trits-requires
     slice-aggregate-put-3
     put-requires-3
     same-length

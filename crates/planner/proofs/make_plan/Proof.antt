@@ -1,38 +1,45 @@
 -- `planner::make_plan` meets its contract.
 -- Assumes nothing.
 use mathlib.Core.Path.{refl}
-use Rattle.network_reader.proofs.Records.{reading-rejected, reading-recorded}
-use Rattle.planner.proofs.Calling.{network-refused, too-many, too-short, searched}
 use borrow.Author.Needs.{needs}
+use Rattle.network_reader.proofs.ReadingNetwork.{ends-refused}
+use Rattle.network_reader.proofs.Records.{filled-recorded}
+use Rattle.planner.proofs.Calling.{network-refused, too-many, too-short, searched}
 use Rattle.planner.proofs.make_plan.Statement.{statement}
 use Rattle.planner.proofs.make_plan.Tie as tie
 
-read-network-requires : tie.Need-read-network-requires
-read-network-requires c κs = search needs
+read-into-requires : tie.Need-read-into-requires
+read-into-requires c κs = record { nodes-are = refl; bits-are = refl; known-are = refl; steering-are = refl }
 
-enum-known-verdict : tie.Need-enum-known-verdict
-enum-known-verdict c = search needs
+enum-known-ending : tie.Need-enum-known-ending
+enum-known-ending c = search needs
+
+enum-known-ending-2 : tie.Need-enum-known-ending-2
+enum-known-ending-2 c = search needs
 
 returns : tie.Need-returns
-returns c = network-refused _ _ _ _ _ (reading-rejected _ _ (c .before .before .before .before .read-network .ensures) _ _ (c .before .verdict .given .1))
-
-enum-told : tie.Need-enum-told
-enum-told c = search needs
+returns c =
+    let at-ending = c .before .before in
+    let r = filled-recorded _ _ _ (at-ending .before .before .read-into .ensures) _ _ (at-ending .«ending2» .given .1) in
+    too-many _ _ _ _ (r .reads) _ (r .filled .counted) (c .if1 .taken)
 
 returns-2 : tie.Need-returns-2
 returns-2 c =
-    let r = reading-recorded _ _ (c .before .before .before .before .before .read-network .ensures) (c .before .before .enum-told .given .1) in
-    too-many _ _ _ _ (r .reads) _ (r .filled .counted) (c .if1 .taken)
-
-returns-3 : tie.Need-returns-3
-returns-3 c =
-    let r = reading-recorded _ _ (c .before .before .before .before .before .before .read-network .ensures) (c .before .before .before .enum-told .given .1) in
+    let at-ending = c .before .before .before in
+    let r = filled-recorded _ _ _ (at-ending .before .before .read-into .ensures) _ _ (at-ending .«ending2» .given .1) in
     too-short _ _ _ _ (r .reads) _ (r .filled .counted) (c .before .if1 .left) (c .if2 .taken)
 
 plan-network-requires : tie.Need-plan-network-requires
 plan-network-requires c κs =
-    let r = reading-recorded _ _ (c .before .before .before .before .before .before .before .before .read-network .ensures) (c .before .before .before .before .before .enum-told .given .1) in
-    record { filled = r .filled; accepted = r .net; few = c .before .before .before .if1 .left; enough = c .before .before .if2 .left }
+    let at-if2 = c .before .before .before .before .before .before in
+    let at-ending = at-if2 .before .before .before in
+    let r = filled-recorded _ _ _ (at-ending .before .before .read-into .ensures) _ _ (at-ending .«ending2» .given .1) in
+    record { count = _; len = _; filled = r .filled; accepted = r .net; few = at-if2 .before .if1 .left; enough = at-if2 .if2 .left }
+
+returns-3 : tie.Need-returns-3
+returns-3 c =
+    let at-ending = c .before in
+    network-refused _ _ _ _ _ (ends-refused _ _ _ (at-ending .before .before .read-into .ensures) _ _ (at-ending .ending .given .1))
 
 same-length : tie.Need-same-length
 same-length c = search needs
@@ -43,24 +50,22 @@ same-length-2 c = search needs
 returns-4 : tie.Need-returns-4
 returns-4 c =
     let at-plan-network = c .before .before .before .before in
-    let at-if2 = at-plan-network .before .before .before in
-    let at-if1 = at-if2 .before in
-    let at-enum-told = at-if1 .before .before in
-    let at-read-network = at-enum-told .before .before .before in
-    let r = reading-recorded _ _ (at-read-network .read-network .ensures) (at-enum-told .enum-told .given .1) in
-    searched _ _ _ _ (r .reads) _ (r .filled .counted) (at-if1 .if1 .left) _ _ _ _ refl (at-if2 .if2 .left) (at-plan-network .plan-network .ensures)
+    let at-if2 = at-plan-network .before .before .before .before .before .before .before in
+    let at-ending = at-if2 .before .before .before in
+    let r = filled-recorded _ _ _ (at-ending .before .before .read-into .ensures) _ _ (at-ending .«ending2» .given .1) in
+    searched _ _ _ _ (r .reads) _ (r .filled .counted) (at-if2 .before .if1 .left) _ _ _ _ refl (at-if2 .if2 .left) (at-plan-network .plan-network .ensures)
 
 pub make-plan-spec : {M : Type 1} → statement M
 make-plan-spec =
     tie.close
     (tie.spec
-    read-network-requires
-    enum-known-verdict
+    read-into-requires
+    enum-known-ending
+    enum-known-ending-2
     returns
-    enum-told
     returns-2
-    returns-3
     plan-network-requires
+    returns-3
     same-length
     same-length-2
     returns-4)

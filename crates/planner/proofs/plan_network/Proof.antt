@@ -15,7 +15,7 @@ returns : tie.Need-returns
 returns c =
     let clear = c .before .before in
     let test = clear .before .before in
-    plans-empty _ _ (test .before .before .before .before .before .pre) _ _ (clear .clear .ensures) (test .if1 .taken)
+    plans-empty _ _ (test .before .before .before .before .pre) _ _ (clear .clear .ensures) (test .if1 .taken)
 
 search-network-requires : tie.Need-search-network-requires
 search-network-requires c κs = search needs

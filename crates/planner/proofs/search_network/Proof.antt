@@ -13,18 +13,17 @@ use Rattle.planner.proofs.search_network.Tie as tie
 
 problem-of-requires : tie.Need-problem-of-requires
 problem-of-requires c κs =
-    let p = c .before .before .before .before .before .before .pre .0 in
+    let p = c .before .before .pre .0 in
     record-steered _ (p .filled) (p .accepted) (p .few)
 
 setting-number-requires : tie.Need-setting-number-requires
 setting-number-requires c κs =
-    let w = c .before .before .before in
-    planned-listed _ _ _ _ (prepared _ _ (w .before .before .before .before .before .before .before .pre .0) _ (w .problem-of .ensures))
+    planned-listed _ _ _ _ (prepared _ _ (c .before .before .before .pre .0) _ (c .problem-of .ensures))
 
 power-of-2-requires : tie.Need-power-of-2-requires
 power-of-2-requires c κs =
-    let w = c .before .before .before .before in
-    omega (arith, prepared _ _ (w .before .before .before .before .before .before .before .pre .0) _ (w .problem-of .ensures) .in-limits .targets-fit)
+    let w = c .before in
+    omega (arith, prepared _ _ (w .before .before .before .pre .0) _ (w .problem-of .ensures) .in-limits .targets-fit)
 
 wide-requires : tie.Need-wide-requires
 wide-requires c κs = search needs
@@ -39,10 +38,10 @@ slice-aggregate-find-plan c = search needs
 
 find-plan-requires : tie.Need-find-plan-requires
 find-plan-requires c κs =
-    let v = c .before .before .before .before .before .before in
+    let v = c .before .before .before in
     let n = v .before .before in
-    let w = n .before .before .before .before in
-    let p = w .before .before .before .before .before .before .before .pre in
+    let w = n .before in
+    let p = w .before .before .before .pre in
     let lists = w .problem-of .ensures in
     let e = n .setting-number .ensures in
     let full = ap (λ (n : ℕ). n - 1) (v .wide .ensures ∙ v .before .power-of-2 .ensures .0) in (
@@ -58,11 +57,11 @@ enum-known-found c = search needs
 
 write-plan-requires : tie.Need-write-plan-requires
 write-plan-requires c κs =
-    let m = c .before .before .before .before .before .before .before in
+    let m = c .before .before .before .before in
     let find = m .before .before .before .before .before in
-    let n = find .before .before .before .before .before .before .before .before .before in
-    let w = n .before .before .before .before in
-    let s = w .before .before .before .before .before .before .before in
+    let n = find .before .before .before .before .before .before in
+    let w = n .before in
+    let s = w .before .before .before in
     let f = find .find-plan .ensures in
     (has-text _ _ (s .pre .0) _ (w .problem-of .ensures) _ (n .setting-number .ensures) (s .args .plan .now) _ (f .1 .1) _ _ (f .1 .0) _ (m .found .given .1), f .0)
 
@@ -72,9 +71,9 @@ same-length c = search needs
 returns : tie.Need-returns
 returns c =
     let find = c .before .before .before .before .before in
-    let n = find .before .before .before .before .before .before .before .before .before in
-    let w = n .before .before .before .before in
-    let p = w .before .before .before .before .before .before .before .pre in
+    let n = find .before .before .before .before .before .before in
+    let w = n .before in
+    let p = w .before .before .before .pre in
     let f = find .find-plan .ensures in
     finds-none _ _ (p .0) _ (w .problem-of .ensures) _ (n .setting-number .ensures) _ _ (f .1 .1) _ _ (f .1 .0) (c .enum-told .given .1)
 
@@ -87,11 +86,11 @@ same-length-3 c = search needs
 returns-2 : tie.Need-returns-2
 returns-2 c =
     let text = c .before .before in
-    let m = text .before .before .before .before .before .before .before .before in
+    let m = text .before .before .before .before .before in
     let find = m .before .before .before .before .before in
-    let n = find .before .before .before .before .before .before .before .before .before in
-    let w = n .before .before .before .before in
-    let p = w .before .before .before .before .before .before .before .pre in
+    let n = find .before .before .before .before .before .before in
+    let w = n .before in
+    let p = w .before .before .before .pre in
     let f = find .find-plan .ensures in
     finds-plan _ _ (p .0) _ (w .problem-of .ensures) _ (n .setting-number .ensures) _ _ (f .1 .1) _ _ (f .1 .0) _ (m .found .given .1) _ _ (text .write-plan .ensures)
 

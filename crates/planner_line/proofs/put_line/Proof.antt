@@ -17,8 +17,8 @@ put-requires c κs = search needs
 path-length-requires : tie.Need-path-length-requires
 path-length-requires c κs = search needs
 
-put-zeros-requires : tie.Need-put-zeros-requires
-put-zeros-requires c κs = search needs
+put-repeated-requires : tie.Need-put-repeated-requires
+put-repeated-requires c κs = search needs
 
 put-operation-requires : tie.Need-put-operation-requires
 put-operation-requires c κs =
@@ -27,7 +27,7 @@ put-operation-requires c κs =
     let s = first .before .before .before .before in
     let len = zeros .before .path-length in
     let fits : first .put .result + len .result ≤ length (first .put .last .0) = omega (arith, s .pre .room, first .put .ensures .0, len .ensures, first .put .kept .0) in
-    let there = zeros-there (first .put .result) (len .result) (first .put .last .0) _ fits (zeros .put-zeros .ensures .1) in
+    let there = zeros-there (first .put .result) (len .result) (first .put .last .0) _ fits (zeros .put-repeated .ensures .1) in
     (operation-room _ (s .pre) _ _ (first .put .ensures .0) (search needs), rw (len .ensures) at there)
 
 slice-aggregate-put-2 : tie.Need-slice-aggregate-put-2
@@ -48,7 +48,7 @@ returns c =
     let s = first .before .before .before .before in
     let len = zeros .before .path-length in (
       omega (arith, first .put .ensures .0, bits .put-operation .ensures .0, last .ensures .0),
-      line-put _ _ _ _ _ _ _ _ _ (s .pre) _ _ _ _ _ _ _ (search needs) (first .put .ensures .0) (first .put .ensures .1) (len .ensures) (zeros .put-zeros .ensures .1)
+      line-put _ _ _ _ _ _ _ _ _ (s .pre) _ _ _ _ _ _ _ (search needs) (first .put .ensures .0) (first .put .ensures .1) (len .ensures) (zeros .put-repeated .ensures .1)
           (bits .put-operation .ensures .0) (bits .put-operation .ensures .1) (last .ensures .1),
     )
 
@@ -59,7 +59,7 @@ put-line-spec =
     slice-aggregate-put
     put-requires
     path-length-requires
-    put-zeros-requires
+    put-repeated-requires
     put-operation-requires
     slice-aggregate-put-2
     put-requires-2

@@ -1,6 +1,7 @@
 //! A sound network that every fault can be put into.
 
 use super::draft::{Draft, Entry};
+use super::lengths::draw_address;
 use super::random::Random;
 use crate::limits::MAX_SEGMENT_BITS;
 
@@ -9,15 +10,28 @@ pub struct Base {
     pub draft: Draft,
     /// Three segments that steer nothing; the second is plain.
     pub instruments: [usize; 3],
-    /// The multiplexer with two inputs and the segment that steers it.
+    /// The multiplexer with two inputs, the segment that steers it and the address bit.
     pub two_way: usize,
     pub two_way_segment: usize,
-    /// The multiplexer with three inputs, which the walk meets first, and its segment.
+    two_way_bit: usize,
+    /// The multiplexer with three inputs, which the walk meets first, its segment and the lower
+    /// address bit.
     pub three_way: usize,
     pub three_way_segment: usize,
+    three_way_bit: usize,
 }
 
-/// Draws a sound network. If `wide`, every segment has 32 bits.
+impl Base {
+    /// The multiplexer with three inputs or that with two, its segment and its BIT.
+    pub fn address(&self, three_way: bool) -> (usize, usize, usize) {
+        match three_way {
+            true => (self.three_way, self.three_way_segment, self.three_way_bit),
+            false => (self.two_way, self.two_way_segment, self.two_way_bit),
+        }
+    }
+}
+
+/// Draws a sound network. If `wide`, every segment has 63 or 64 bits, and any of them may be an address.
 pub fn base(random: &mut Random, wide: bool) -> Base {
     let mut draft = Draft::default();
     let lead = add_chain(random, &mut draft, 0, wide);
@@ -28,24 +42,35 @@ pub fn base(random: &mut Random, wide: bool) -> Base {
     let number = draft.nodes.len();
     let (two_way, three_way) = (number + 1, number + 2);
     let (two_way_segment, three_way_segment) = (number + 3, number + 4);
-    draft.multiplexer(two_way_segment, 0, vec![instruments[0], instruments[1]]);
-    draft.multiplexer(three_way_segment, 0, vec![two_way, instruments[2], lead]);
-    draft.segment(three_way, draw_len(random, wide, 1, 4), true);
-    draft.segment(two_way_segment, draw_len(random, wide, 2, 5), true);
+    let [(two_way_len, two_way_bit), (three_way_len, three_way_bit)] = [1, 2].map(|width| {
+        let len = draw_len(random, wide, width, width + 3);
+        (len, if wide { draw_address(random, len - width) } else { 0 })
+    });
+    draft.multiplexer(two_way_segment, two_way_bit, vec![instruments[0], instruments[1]]);
+    draft.multiplexer(three_way_segment, three_way_bit, vec![two_way, instruments[2], lead]);
+    draft.segment(three_way, two_way_len, true);
+    draft.segment(two_way_segment, three_way_len, true);
     draft.out = add_chain(random, &mut draft, three_way_segment, wide);
     add_entries(random, &mut draft, &instruments);
-    Base { draft, instruments, two_way, two_way_segment, three_way, three_way_segment }
+    Base {
+        draft,
+        instruments,
+        two_way,
+        two_way_segment,
+        two_way_bit,
+        three_way,
+        three_way_segment,
+        three_way_bit,
+    }
 }
 
 /// Draws a sound network with RESET fields. The walk still meets both multiplexers.
 pub fn reset_base(random: &mut Random, wide: bool) -> Base {
     let mut base = base(random, wide);
-    for (segment, lowest) in
-        [(base.two_way_segment, ["0", "1"]), (base.three_way_segment, ["00"; 2])]
-    {
-        let lowest = *random.pick(&lowest);
-        let above = base.draft.len(segment) - lowest.len();
-        let bits = random.letters(&['0', '1', 'X'], above) + lowest;
+    for (three_way, addresses) in [(false, ["0", "1"]), (true, ["00"; 2])] {
+        let address = *random.pick(&addresses);
+        let (_, segment, bit) = base.address(three_way);
+        let bits = base.draft.start_with(random, segment, bit, address);
         base.draft.set_reset(segment, &bits);
     }
     base.draft.draw_resets(random, 50);
@@ -54,7 +79,7 @@ pub fn reset_base(random: &mut Random, wide: bool) -> Base {
 
 fn draw_len(random: &mut Random, wide: bool, low: usize, high: usize) -> usize {
     if wide {
-        MAX_SEGMENT_BITS
+        *random.pick(&[MAX_SEGMENT_BITS - 1, MAX_SEGMENT_BITS])
     } else {
         random.between(low, high)
     }

@@ -1,17 +1,18 @@
 //! A card: registers and SIBs in a row, with unknown start bits in many places.
 
 use super::draft::Draft;
+use super::lengths::draw_len;
 use super::random::Random;
 use super::sib::sib;
 use super::unknown::make_unknown;
-use crate::limits::{MAX_NODES, MAX_SEGMENT_BITS};
+use crate::limits::{EARLIER_SEGMENT_BITS, MAX_NETWORK_BITS, MAX_NODES, MAX_SEGMENT_BITS};
 
 /// A card without nodes, or one whose highest node number has one, two or three digits.
 pub fn card(random: &mut Random) -> Draft {
     let nodes = match random.below(3) {
         0 => random.between(0, 9),
         1 => random.between(10, 99),
-        _ => random.between(100, MAX_NODES),
+        _ => random.between(100, MAX_NODES + 4).min(MAX_NODES),
     };
     let mut sibs_left = *random.pick(&[0, 1, 3, 6, 6, 12]);
     let mut draft = Draft::default();
@@ -22,10 +23,10 @@ pub fn card(random: &mut Random) -> Draft {
         draft.out = if fits && random.percent(60) {
             sibs_left -= 1;
             sib(random, &mut draft, from, |random, draft, from| {
-                (0..inner).fold(from, |from, _| register(random, draft, from))
+                (0..inner).fold(from, |from, _| register(random, draft, from, nodes))
             })
         } else {
-            register(random, &mut draft, from)
+            register(random, &mut draft, from, nodes)
         };
     }
     let [targets, holds, resets] =
@@ -39,9 +40,12 @@ pub fn card(random: &mut Random) -> Draft {
     draft
 }
 
-/// A segment of 1 bit, of 32 or of any number, of either kind.
-fn register(random: &mut Random, draft: &mut Draft, from: usize) -> usize {
-    let any = random.between(1, MAX_SEGMENT_BITS);
-    let len = *random.pick(&[1, any, MAX_SEGMENT_BITS]);
-    draft.segment(from, len, random.bit())
+/// A segment of 1 bit, of 32, of 64 or of any number, of either kind. A bit is left for each node to
+/// come.
+fn register(random: &mut Random, draft: &mut Draft, from: usize, nodes: usize) -> usize {
+    let any = draw_len(random, MAX_SEGMENT_BITS);
+    let len = *random.pick(&[1, any, EARLIER_SEGMENT_BITS, MAX_SEGMENT_BITS]);
+    let to_come = nodes - draft.nodes.len() - 1;
+    let room = MAX_NETWORK_BITS - draft.bits() - to_come;
+    draft.segment(from, len.min(room), random.bit())
 }

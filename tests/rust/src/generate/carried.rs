@@ -83,7 +83,7 @@ pub fn draw_target_lines(random: &mut Random, network: &Network) -> Vec<u8> {
     let mut draft = Draft::of(network);
     let percent = *random.pick(&[0, 5, 20, 50, 90]);
     draft.draw_targets(random, percent);
-    if random.percent(15) {
+    if random.percent(20) {
         let target = draw_odd_target(random, &draft);
         draft.entries.insert(random.below(draft.entries.len() + 1), target);
     }

@@ -1,7 +1,7 @@
 //! The forms of exercises that pass, so that tests can count them.
 
 use super::exercises::Exercise;
-use crate::limits::{MAX_NODES, MAX_SEGMENT_BITS, MAX_TARGETS};
+use crate::limits::{EARLIER_SEGMENT_BITS, MAX_NODES, MAX_SEGMENT_BITS, MAX_TARGETS};
 use crate::marker::{mark_texts, Marked};
 use crate::network::{Bit, Node};
 use crate::path::walk;
@@ -55,8 +55,8 @@ impl Forms<'_> {
         let shadow = any(&|segment| !network.is_plain(segment));
         let [one, two, three] =
             [1..10, 10..100, 100..1_000].map(|range| any(&|segment| range.contains(&segment)));
-        let one_bit = any(&|segment| network.len(segment) == 1);
-        let most_bits = any(&|segment| network.len(segment) == MAX_SEGMENT_BITS);
+        let [one_bit, earlier_bits, most_bits] = [1, EARLIER_SEGMENT_BITS, MAX_SEGMENT_BITS]
+            .map(|len| any(&|segment| network.len(segment) == len));
         let between = segments.len() < network.nodes.len();
         let count = segments.len();
         self.note("plain segment", plain);
@@ -65,7 +65,8 @@ impl Forms<'_> {
         self.note("number of two digits", two);
         self.note("number of three digits", three);
         self.note("segment of one bit", one_bit);
-        self.note("segment of 32 bits", most_bits);
+        self.note("segment of 32 bits", earlier_bits);
+        self.note("segment of 64 bits", most_bits);
         self.note("multiplexer, which has no line", between);
         self.note("no segment", count == 0);
         self.note("128 segments", count == MAX_NODES);
@@ -103,7 +104,14 @@ impl Forms<'_> {
                 "X and known bits in one segment",
                 last.iter().any(|bits| bits.contains(&None) && bits.iter().any(Option::is_some)),
             ),
+            ("X above bit 31", upper(last).any(Option::is_none)),
+            ("bit 1 above bit 31", upper(last).any(|bit| *bit == Some(true))),
         ];
         names.into_iter().for_each(|(name, holds)| self.note(name, holds));
     }
+}
+
+/// The bits of segments above bit 31.
+fn upper(configuration: &[Vec<Bit>]) -> impl Iterator<Item = &Bit> {
+    configuration.iter().flat_map(|bits| bits.iter().skip(EARLIER_SEGMENT_BITS))
 }

@@ -4,8 +4,9 @@ use super::base::{base, Base};
 use super::damage::Damaged;
 use super::draft::Draft;
 use super::edges::{draw_edge_network, draw_edge_plan};
-use super::faults::{all_faults, Fault, FAULTS};
+use super::faults::{all_faults, draw_faults, Fault, FAULTS};
 use super::large::{chain, full, large, steered};
+use super::lengths::draw_len;
 use super::maze::{gray, maze};
 use super::plan_damage::{damage_plan, PLAN_FAULTS};
 use super::plans::{lengthened, mutated, planned, unfilled, wander};
@@ -79,7 +80,9 @@ pub fn draw_network(random: &mut Random) -> Draft {
 }
 
 fn draw_known_network(random: &mut Random) -> Draft {
-    let size = Size { depth: 3, sibs: random.between(1, 7), len: random.between(1, 32) };
+    let drawn = draw_len(random, MAX_SEGMENT_BITS);
+    let len = *random.pick(&[drawn, MAX_SEGMENT_BITS]);
+    let size = Size { depth: 3, sibs: random.between(1, 7), len };
     match random.below(20) {
         0..=5 => tiny(random, 7),
         6..=8 => tiny(random, 20),
@@ -89,7 +92,7 @@ fn draw_known_network(random: &mut Random) -> Draft {
             let (depth, len) = (random.between(1, 4), random.between(1, 6));
             maze(random, depth, len)
         }
-        17 => gray(random.between(1, 20), Some("1001"), &[random.between(1, 32)]),
+        17 => gray(random.between(1, 20), Some("1001"), &[len]),
         18 => large(random),
         _ => match random.below(4) {
             0 => full(),
@@ -105,19 +108,14 @@ fn draw_known_network(random: &mut Random) -> Draft {
 
 /// A sound network with so many faults of different numbers in it.
 pub fn draw_damaged(random: &mut Random, count: usize) -> Damaged {
-    let mut faults: Vec<Fault> = Vec::new();
-    while faults.len() < count {
-        let fault = *random.pick(&FAULTS);
-        if !faults.iter().any(|other| other.number() == fault.number()) {
-            faults.push(fault);
-        }
-    }
+    let faults = draw_faults(random, &FAULTS, &FAULTS, count);
     damaged_with(random, &faults).0
 }
 
 /// A sound network with these faults, and how many of them could be put in.
 pub fn damaged_with(random: &mut Random, faults: &[Fault]) -> (Damaged, usize) {
-    let base = base(random, faults.iter().any(|fault| fault.needs_wide()));
+    let wide = random.percent(20);
+    let base = base(random, wide);
     put_faults(random, &base, faults)
 }
 

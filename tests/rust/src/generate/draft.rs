@@ -50,6 +50,11 @@ impl Draft {
         segment_len(&self.nodes, segment).unwrap_or(0)
     }
 
+    /// The bits of all segments together.
+    pub fn bits(&self) -> usize {
+        (1..=self.nodes.len()).map(|number| self.len(number)).sum()
+    }
+
     /// The segments that may be targets.
     pub fn candidates(&self) -> Vec<usize> {
         let mut segments = self.segments();
@@ -96,6 +101,19 @@ impl Draft {
             false => &['0', '1', 'X'],
         };
         random.letters(letters, self.len(segment))
+    }
+
+    /// Any start bits of a segment with these characters from a bit up.
+    pub fn start_with(
+        &self,
+        random: &mut Random,
+        segment: usize,
+        bit: usize,
+        chosen: &str,
+    ) -> String {
+        let letters = ['0', '1', 'X'];
+        let above = random.letters(&letters, self.len(segment) - chosen.len() - bit);
+        above + chosen + &random.letters(&letters, bit)
     }
 
     /// The lines, without their ends.

@@ -3,6 +3,7 @@
 use super::card::card;
 use super::cases::{draw_network, draw_plan};
 use super::draft::{Draft, Entry};
+use super::long_cases::draw_long_network;
 use super::near::before;
 use super::plans::wander;
 use super::random::Random;
@@ -45,9 +46,10 @@ pub fn draw_exercise(random: &mut Random) -> Exercise {
 
 /// A network of any kind, most often a card.
 fn draw_start(random: &mut Random) -> Draft {
-    match random.below(4) {
-        0 => draw_network(random),
-        1 => draw_reset_network(random),
+    match random.below(8) {
+        0 | 1 => draw_network(random),
+        2 | 3 => draw_reset_network(random),
+        4 => draw_long_network(random),
         _ => card(random),
     }
 }

@@ -139,6 +139,23 @@ pub fn all_faults() -> Vec<Fault> {
     [&FAULTS[..2], &RESET_FAULTS, &FAULTS[2..]].concat()
 }
 
+/// So many faults of different numbers, one of `first` and the others of `all`.
+pub fn draw_faults(
+    random: &mut Random,
+    first: &[Fault],
+    all: &[Fault],
+    count: usize,
+) -> Vec<Fault> {
+    let mut faults = vec![*random.pick(first)];
+    while faults.len() < count {
+        let fault = *random.pick(all);
+        if !faults.iter().any(|other| other.number() == fault.number()) {
+            faults.push(fault);
+        }
+    }
+    faults
+}
+
 impl Fault {
     /// The number that refuses a text with this fault alone.
     pub fn number(self) -> u32 {
@@ -156,11 +173,6 @@ impl Fault {
             StartUnknown | StartBeyond | StartResetUnknown | StartResetBeyond => 9,
             ResetShort | ResetLong | ResetNewLine | ResetNode129 | ResetBit4001 => 18,
         }
-    }
-
-    /// Whether the fault needs a network whose segments all have 32 bits.
-    pub fn needs_wide(self) -> bool {
-        [Bit4001, ResetBit4001, Bit4001Reset].contains(&self)
     }
 
     /// Puts the fault in. `None` if no sound line is left that could have it.

@@ -1,8 +1,9 @@
 //! Networks near the limits.
 
 use super::draft::{Draft, Entry};
+use super::lengths::draw_len;
 use super::random::Random;
-use crate::limits::{MAX_NETWORK_BITS, MAX_NODES, MAX_SEGMENT_BITS};
+use crate::limits::{EARLIER_SEGMENT_BITS, MAX_NETWORK_BITS, MAX_NODES, MAX_SEGMENT_BITS};
 
 /// 125 segments of 32 bits in a row, all on the path, with 3 multiplexers between them: 128
 /// nodes, 4,000 bits, 6 steering bits and 4 targets. Each operation may have 4,000 bits.
@@ -11,14 +12,14 @@ pub fn full() -> Draft {
     let mut from = 0;
     for index in 0..125 {
         let before = from;
-        from = draft.segment(before, MAX_SEGMENT_BITS, index % 2 == 0);
+        from = draft.segment(before, EARLIER_SEGMENT_BITS, index % 2 == 0);
         if index % 40 == 20 {
             let bit = index / 20;
             from = draft.multiplexer(1, bit, vec![from, before, from, from]);
         }
     }
     draft.out = from;
-    let ones = "1".repeat(MAX_SEGMENT_BITS);
+    let ones = "1".repeat(EARLIER_SEGMENT_BITS);
     draft.entries = vec![
         Entry::Read { segment: 2 },
         Entry::Write { segment: 2, bits: ones.clone() },
@@ -56,20 +57,20 @@ pub fn large(random: &mut Random) -> Draft {
     let mut draft = Draft::default();
     let nodes = *random.pick(&[60, 100, MAX_NODES]);
     let steering = draw_steering(random, &mut draft);
-    let mut bits_left = MAX_NETWORK_BITS - draft.nodes.len() * MAX_SEGMENT_BITS;
     while draft.nodes.len() < nodes {
         let last = draft.nodes.len();
+        let bits_left = MAX_NETWORK_BITS - draft.bits();
         if random.percent(60) && bits_left > 0 {
-            let len = random.between(1, bits_left.min(MAX_SEGMENT_BITS));
-            bits_left -= len;
+            let len = draw_len(random, bits_left.min(MAX_SEGMENT_BITS));
             let from = if random.percent(95) { last } else { near(random, last) };
             draft.segment(from, len, random.percent(60));
         } else {
             let count = *random.pick(&[2, 2, 3, 4]);
             let mut inputs: Vec<usize> = (0..count).map(|_| near(random, last)).collect();
             inputs[random.below(count)] = last;
-            let (seg, bit) = *random.pick(&steering);
-            draft.multiplexer(seg, if count == 2 { bit } else { 0 }, inputs);
+            let (seg, low) = *random.pick(&steering);
+            let bit = if count == 2 { low + random.below(2) } else { low };
+            draft.multiplexer(seg, bit, inputs);
         }
     }
     draft.out = nodes;
@@ -78,15 +79,18 @@ pub fn large(random: &mut Random) -> Draft {
     draft
 }
 
-/// Up to 4 steering segments in a row; gives the addresses that multiplexers may take, up to 8.
+/// Up to 4 steering segments in a row; gives each one with the lower of the two bits that multiplexers
+/// may take.
 fn draw_steering(random: &mut Random, draft: &mut Draft) -> Vec<(usize, usize)> {
+    let mut steering = Vec::new();
     let mut from = 0;
-    let mut addresses = Vec::new();
     for _ in 0..*random.pick(&[1, 2, 2, 3, 3, 3, 4]) {
-        from = draft.segment(from, random.between(2, MAX_SEGMENT_BITS), true);
-        addresses.extend([(from, 0), (from, 1)]);
+        let len = draw_len(random, MAX_SEGMENT_BITS).max(2);
+        let any = random.below(len - 1);
+        from = draft.segment(from, len, true);
+        steering.push((from, *random.pick(&[0, any, len - 2])));
     }
-    addresses
+    steering
 }
 
 /// A number from 0 to `last`, most often close to `last`.

@@ -1,9 +1,11 @@
 //! Plans one change away from a plan that passes.
 
 use super::random::Random;
+use crate::limits::MAX_PLAN_BYTES;
 use crate::network::{Configuration, Network};
 use crate::path::{csu, is_valid, walk};
-use crate::refusal::{Refusal, BIT_COUNT, CONFIGURATION};
+use crate::plan_text::write_plan;
+use crate::refusal::{Refusal, BIT_COUNT, CONFIGURATION, PLAN_FORM};
 use crate::steering::steering_bits;
 
 #[derive(Clone, Copy, Debug, PartialEq, Eq)]
@@ -44,7 +46,10 @@ pub fn near(
         Longer => {
             let at = random.below(plan[index].len() + 1);
             plan[index].insert(at, random.bit());
-            expected = Some(Refusal::new(BIT_COUNT, index + 1));
+            expected = Some(match write_plan(&plan).len() {
+                0..=MAX_PLAN_BYTES => Refusal::new(BIT_COUNT, index + 1),
+                _ => Refusal::new(PLAN_FORM, 0),
+            });
         }
         Shorter => {
             let at = random.below(plan[index].len().max(1));

@@ -6,10 +6,10 @@ use super::cases::{case_of, draw_network, put_faults, scramble, Case};
 use super::damage::Damaged;
 use super::draft::Draft;
 use super::edges::held_chain;
-use super::faults::{all_faults, Fault, RESET_FAULTS};
+use super::faults::{all_faults, draw_faults, Fault, RESET_FAULTS};
 use super::large::chain;
 use super::random::Random;
-use crate::limits::{MAX_NETWORK_BITS, MAX_NETWORK_BYTES, MAX_NODES};
+use crate::limits::{MAX_NETWORK_BITS, MAX_NETWORK_BYTES, MAX_NODES, MAX_SEGMENT_BITS};
 
 /// Where the random numbers of a seed differ from those of `cases::case`.
 const STREAM: u64 = 0x5245_5345_5400_0000;
@@ -64,19 +64,13 @@ pub fn draw_reset_damaged(random: &mut Random, count: usize) -> Damaged {
 pub fn draw_reset_faults(random: &mut Random, count: usize) -> Vec<Fault> {
     let all = all_faults();
     let first: &[Fault] = if random.percent(70) { &RESET_FAULTS } else { &all };
-    let mut faults = vec![*random.pick(first)];
-    while faults.len() < count {
-        let fault = *random.pick(&all);
-        if !faults.iter().any(|other| other.number() == fault.number()) {
-            faults.push(fault);
-        }
-    }
-    faults
+    draw_faults(random, first, &all, count)
 }
 
 /// A sound network with RESET fields and these faults, and how many of them could be put in.
 pub fn reset_damaged_with(random: &mut Random, faults: &[Fault]) -> (Damaged, usize) {
-    let base = reset_base(random, faults.iter().any(|fault| fault.needs_wide()));
+    let wide = random.percent(20);
+    let base = reset_base(random, wide);
     put_faults(random, &base, faults)
 }
 
@@ -95,7 +89,7 @@ pub fn draw_edge_reset(random: &mut Random) -> Vec<u8> {
 /// A text of this length whose one line has a RESET that is not LEN long, so that it is refused with
 /// 18 if it is not too long.
 pub fn long_reset(length: usize) -> Vec<u8> {
-    let mut text = b"seg\t0\t32\ts\t".to_vec();
+    let mut text = format!("seg\t0\t{MAX_SEGMENT_BITS}\ts\t").into_bytes();
     text.resize(length - 1, b'X');
     text.push(b'\n');
     text

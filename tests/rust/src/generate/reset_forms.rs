@@ -1,6 +1,6 @@
 //! The forms of RESET that a network text has, so that tests can count them.
 
-use crate::limits::{MAX_NETWORK_BYTES, MAX_NODES, MAX_SEGMENT_BITS};
+use crate::limits::{EARLIER_SEGMENT_BITS, MAX_NETWORK_BYTES, MAX_NODES, MAX_SEGMENT_BITS};
 use crate::network::{Bit, Network, Node};
 use crate::network_line::{parse_line, NetworkLine};
 use crate::path::walk;
@@ -129,7 +129,8 @@ impl Forms {
         let mut note = |name, test: &dyn Fn(usize, &[Bit]) -> bool| {
             self.note(name, found.resets.iter().any(|(segment, _, bits)| test(*segment, bits)));
         };
-        note("RESET of 32 bits", &|_, bits| bits.len() == MAX_SEGMENT_BITS);
+        note("RESET of 32 bits", &|_, bits| bits.len() == EARLIER_SEGMENT_BITS);
+        note("RESET of 64 bits", &|_, bits| bits.len() == MAX_SEGMENT_BITS);
         note("RESET of a plain segment", &|segment, _| network.is_plain(segment));
         note("RESET with X", &|_, bits| unknown(bits));
         note("RESET of a steering segment", &|segment, _| steers(segment));

@@ -2,7 +2,7 @@
 
 use super::draft::{Draft, Entry};
 use super::maze::{gray_number, tree, Level};
-use crate::limits::{MAX_NODES, MAX_OPERATIONS, MAX_SEGMENT_BITS};
+use crate::limits::{EARLIER_SEGMENT_BITS, MAX_NODES, MAX_OPERATIONS};
 
 /// The steering bits that number the leaves.
 const LEVELS: usize = 4;
@@ -20,7 +20,7 @@ const _: () = assert!(LAST < 1 << LEVELS);
 pub fn many_rounds() -> Draft {
     let mut draft = Draft::default();
     let half = draft.segment(0, 1, true);
-    let last = draft.segment(0, MAX_SEGMENT_BITS, true);
+    let last = draft.segment(0, EARLIER_SEGMENT_BITS, true);
     let mut levels = Vec::new();
     let mut all = half;
     for _ in 0..=LEVELS {
@@ -42,10 +42,10 @@ pub fn many_rounds() -> Draft {
     let root = tree(&mut draft, &levels, &mut Vec::new(), &mut leaf);
     draft.out = draft.multiplexer(half, 0, vec![all, root]);
     while draft.nodes.len() < MAX_NODES {
-        draft.out = draft.segment(draft.out, MAX_SEGMENT_BITS, false);
+        draft.out = draft.segment(draft.out, EARLIER_SEGMENT_BITS, false);
     }
     draft.entries = reads.map(|segment| Entry::Read { segment }).to_vec();
-    let bits = "10".repeat(MAX_SEGMENT_BITS / 2);
+    let bits = "10".repeat(EARLIER_SEGMENT_BITS / 2);
     draft.entries.push(Entry::Write { segment: last, bits });
     draft
 }

@@ -1,6 +1,7 @@
 //! Segment insertion bits (SIB): a steering bit that puts what lies behind it on the path.
 
 use super::draft::Draft;
+use super::lengths::draw_len;
 use super::random::Random;
 
 /// How large the parts of a SIB network may become.
@@ -20,7 +21,7 @@ pub fn sib_chain(random: &mut Random, size: Size) -> Draft {
     let mut from = 0;
     for _ in 0..size.sibs {
         from = sib(random, &mut draft, from, |random, draft, from| {
-            let len = random.between(1, size.len);
+            let len = draw_len(random, size.len);
             draft.segment(from, len, random.percent(70))
         });
     }
@@ -54,7 +55,7 @@ fn branch(
                 let inner = Size { depth: size.depth - 1, ..size };
                 last = branch(random, draft, last, inner, sibs_left);
             } else {
-                let len = random.between(1, size.len);
+                let len = draw_len(random, size.len);
                 last = draft.segment(last, len, random.percent(70));
             }
         }

@@ -85,17 +85,13 @@ pub fn put_start(
     damaged: &mut Damaged,
 ) -> Option<()> {
     let three_way = fault == Fault::StartBeyond || random.bit();
-    let (segment, multiplexer) = match three_way {
-        true => (base.three_way_segment, base.three_way),
-        false => (base.two_way_segment, base.two_way),
-    };
-    let lowest = match (fault, three_way) {
+    let (multiplexer, segment, bit) = base.address(three_way);
+    let address = match (fault, three_way) {
         (Fault::StartBeyond, _) => "11",
         (_, true) => *random.pick(&["XX", "0X", "X0"]),
         (_, false) => "X",
     };
-    let above = base.draft.len(segment) - lowest.len();
-    let bits = random.letters(&['0', '1', 'X'], above) + lowest;
+    let bits = base.draft.start_with(random, segment, bit, address);
     damaged.insert(damaged.lines.len(), format!("hold\t{segment}\t{bits}"), None);
     damaged.bad_start = Some(multiplexer);
     Some(())

@@ -24,12 +24,19 @@ pub fn put_bounds(fault: Fault, random: &mut Random, damaged: &mut Damaged) -> O
     };
     // The index of a node line is its number less one, that of `out` is the count of nodes.
     let value = match fault {
-        Fault::LenBound => *random.pick(&[0, MAX_SEGMENT_BITS + 1, 9999]),
+        Fault::LenBound => draw_bad_len(random),
         _ => *random.pick(&[index + 1, index + 2, 9999]),
     };
     line.replace_field(field, value.to_string());
     line.fault = Some(BOUNDS);
     Some(())
+}
+
+/// A LEN outside its bounds, often the least above them.
+pub fn draw_bad_len(random: &mut Random) -> usize {
+    let above = MAX_SEGMENT_BITS + 1;
+    let far = random.between(above, 9999);
+    *random.pick(&[0, above, above, above + 1, 2 * MAX_SEGMENT_BITS, far, 9999])
 }
 
 /// "node 129, or over 4,000 bits; place 0: text too long"
@@ -56,13 +63,18 @@ pub fn fill_nodes(damaged: &mut Damaged) {
     }
 }
 
-/// Adds segments up to 4,000 bits. All segments have 32 bits, and 125 of them have 4,000.
+/// Adds segments up to 4,000 bits, each one as long as it may be.
 pub fn fill_bits(damaged: &mut Damaged) {
-    let is_segment = |line: &&DamagedLine| line.word() == "seg";
-    let segments = damaged.lines.iter().filter(is_segment).count();
-    let wide = format!("seg\t0\t{MAX_SEGMENT_BITS}\ts");
-    for _ in segments..MAX_NETWORK_BITS / MAX_SEGMENT_BITS {
-        damaged.insert(damaged.out_index(), wide.clone(), None);
+    let len = |line: &DamagedLine| match line.fields()[..] {
+        ["seg", _, len, ..] => len.parse().expect("a sound LEN"),
+        _ => 0,
+    };
+    let bits: usize = damaged.lines.iter().map(len).sum();
+    let mut left = MAX_NETWORK_BITS.saturating_sub(bits);
+    while left > 0 {
+        let len = left.min(MAX_SEGMENT_BITS);
+        damaged.insert(damaged.out_index(), format!("seg\t0\t{len}\ts"), None);
+        left -= len;
     }
 }
 
@@ -81,7 +93,7 @@ pub fn put_order(
             damaged.insert(random.below(out + 1), entry, Some(ORDER));
         }
         Fault::NodeAfterOut => {
-            let node = *random.pick(&["seg\t0\t1\ts", "seg\t9999\t33\ts", "mux\t0\t99\t0\t9999"]);
+            let node = *random.pick(&["seg\t0\t1\ts", "seg\t9999\t65\ts", "mux\t0\t99\t0\t9999"]);
             damaged.insert(random.between(out + 1, end), node, Some(ORDER));
         }
         Fault::SecondOut => {
@@ -114,7 +126,8 @@ pub fn put_address(
                 _ => (base.three_way_segment, 2),
             };
             let first_beyond = base.draft.len(segment) + 1 - width;
-            let bit = *random.pick(&[first_beyond, first_beyond + 1, 9999]);
+            let far = first_beyond + MAX_SEGMENT_BITS;
+            let bit = *random.pick(&[first_beyond, first_beyond + 1, far, 9999]);
             line.replace_field(2, bit.to_string());
         }
     }

@@ -1,6 +1,6 @@
 //! 18, and the other numbers on lines with a RESET field.
 
-use super::nodes::{fill_bits, fill_nodes};
+use super::nodes::{draw_bad_len, fill_bits, fill_nodes};
 use super::Fault;
 use crate::generate::base::Base;
 use crate::generate::damage::{Damaged, DamagedLine};
@@ -38,7 +38,7 @@ pub fn put_reset(
 /// Another segment before `out`, or behind it, with a RESET that is good in two of the faults.
 fn put_new_line(fault: Fault, random: &mut Random, damaged: &mut Damaged) -> Option<()> {
     let good = [Fault::Node129Reset, Fault::Bit4001Reset].contains(&fault);
-    let length = if good { 1 } else { random.between(2, 40) };
+    let length = if good { 1 } else { random.between(2, MAX_SEGMENT_BITS + 8) };
     let bits = random.letters(&LETTERS, length);
     let out = damaged.out_index();
     let index = match fault {
@@ -54,7 +54,7 @@ fn spoil(fault: Fault, random: &mut Random, index: usize, line: &mut DamagedLine
     let len: usize = line.fields()[2].parse().expect("a sound line");
     let good = random.letters(&LETTERS, len);
     let shorter = &good[1..];
-    let more = *random.pick(&[1, 1, 2, 33, 500]);
+    let more = *random.pick(&[1, 1, 2, 33, 65, 500]);
     let longer = good.clone() + &random.letters(&LETTERS, more);
     let reset = match fault {
         Fault::ResetShort => (!shorter.is_empty()).then(|| shorter.to_string())?,
@@ -76,9 +76,9 @@ fn spoil(fault: Fault, random: &mut Random, index: usize, line: &mut DamagedLine
             longer
         }
         _ => {
-            let bound = MAX_SEGMENT_BITS + 1;
-            line.replace_field(2, random.pick(&[0, bound, 9999]).to_string());
-            random.pick(&[good, longer, "0".repeat(bound)]).clone()
+            let bad = draw_bad_len(random);
+            line.replace_field(2, bad.to_string());
+            random.pick(&[good, longer, "0".repeat(bad.clamp(1, 2 * MAX_SEGMENT_BITS))]).clone()
         }
     };
     line.set_reset(&reset);
@@ -89,18 +89,15 @@ fn spoil(fault: Fault, random: &mut Random, index: usize, line: &mut DamagedLine
 /// "start not valid; first multiplexer met": a RESET of a segment that steers, without a `hold`.
 fn put_start(fault: Fault, random: &mut Random, base: &Base, damaged: &mut Damaged) -> Option<()> {
     let three_way = fault == Fault::StartResetBeyond || random.bit();
-    let (segment, multiplexer) = match three_way {
-        true => (base.three_way_segment, base.three_way),
-        false => (base.two_way_segment, base.two_way),
-    };
-    let lowest = match (fault, three_way) {
+    let (multiplexer, segment, bit) = base.address(three_way);
+    let address = match (fault, three_way) {
         (Fault::StartResetBeyond, _) => "11",
         (_, true) => *random.pick(&["XX", "0X", "X0", "1X", "X1"]),
         (_, false) => "X",
     };
-    let above = base.draft.len(segment) - lowest.len();
+    let bits = base.draft.start_with(random, segment, bit, address);
     let line = damaged.lines.get_mut(segment - 1).filter(|line| line.is_sound())?;
-    line.set_reset(&(random.letters(&LETTERS, above) + lowest));
+    line.set_reset(&bits);
     damaged.bad_start = Some(multiplexer);
     Some(())
 }

@@ -1,4 +1,4 @@
--- `plan_text::put_zeros` meets its contract. The loop's invariant: the first i bytes are written.
+-- `plan_text::put_repeated` meets its contract. The loop's invariant: the first i bytes are written.
 -- Assumes nothing.
 use mathlib.Core.Path.{_≡_, refl, sym}
 use Prim.Native.Nat.{_-_, _≤_}
@@ -6,14 +6,14 @@ use lib.ListN.{length, replicate, length-set}
 use borrow.Author.Needs.{needs}
 use Rattle.plan_text.specs.Writing.{writeAt}
 use Rattle.plan_text.proofs.Writing.{write-none, fill-next, fill-done}
-use Rattle.plan_text.proofs.put_zeros.Statement.{statement}
-use Rattle.plan_text.proofs.put_zeros.Tie as tie
+use Rattle.plan_text.proofs.put_repeated.Statement.{statement}
+use Rattle.plan_text.proofs.put_repeated.Tie as tie
 
 abbrev Inv-loop : tie.InvT-loop
-Inv-loop buf₀ at n i₀ buf i = (i ≤ n) × (length buf ≡ length buf₀) × (buf ≡ writeAt at (replicate i 48) buf₀)
+Inv-loop buf₀ at byte n i₀ buf i = (i ≤ n) × (length buf ≡ length buf₀) × (buf ≡ writeAt at (replicate i byte) buf₀)
 
 abbrev μ-loop : tie.MeasureT-loop
-μ-loop buf₀ at n i₀ buf i = n - i
+μ-loop buf₀ at byte n i₀ buf i = n - i
 
 loop-holds : tie.Need-loop-holds Inv-loop μ-loop
 loop-holds c = (search needs, refl, sym (write-none _ _))
@@ -44,8 +44,8 @@ same-length c = search needs
 returns : tie.Need-returns Inv-loop μ-loop
 returns c = (refl, fill-done _ _ _ _ _ _ (c .before .loop .inv .0) (c .loop-test .left) (c .before .loop .inv .2))
 
-pub put-zeros-spec : {M : Type 1} → statement M
-put-zeros-spec =
+pub put-repeated-spec : {M : Type 1} → statement M
+put-repeated-spec =
     tie.close
     (tie.spec
     Inv-loop
