@@ -2,7 +2,7 @@
 -- program gives the same.
 -- Assumes nothing.
 use mathlib.Core.Path.{_≡_, refl, sym, ap, _∙_}
-use mathlib.Core.Bool.{Bool, true, false, _||_}
+use mathlib.Core.Bool.{true, false, _||_}
 use mathlib.Core.Option.{Option, none, some}
 use mathlib.Core.List.{List, [], _∷_}
 use Prim.Native.Nat.{ℕ, suc, _≤_}
@@ -19,10 +19,11 @@ use Rattle.model.specs.Network.{Node, segment, multiplexer, write, Netwo
 use Rattle.model.specs.NetworkText.{Reset, Line, node, out, hold, target, segLine, decimals, muxLine, numberLine, bitsLine, lineOf, Draft, hasOut, outside, addNode, firstBad, addOut, isTarget, addTarget, addLine, readLines, finish, noLines, readUpTo, readNetwork}
 use Rattle.model.specs.Path.{walkFrom}
 use Rattle.model.specs.Printed.{printed, showNetwork, showPass, readProgram, planProgram, markProgram}
-use Rattle.model.specs.Result.{Result, ok, refused, refuseIf, andThen}
+use Rattle.model.specs.Resets.{readWithoutReset}
+use Rattle.model.specs.Result.{Result, ok, andThen}
 use Rattle.model.specs.Text.{Bytes, bytes, parts, lineEnd, digitsFrom, decimal, same, wordOf, bitsFrom}
 use Rattle.model.proofs.Lists.{or-parts, or-right, handed, passed-test}
-use Rattle.model.proofs.OldForm.{accepted-as-before}
+use Rattle.model.proofs.OldForm.{read-as-before, accepted-as-before, old-form-met}
 
 -- ---- the bound of LEN
 
@@ -96,7 +97,7 @@ earlier-texts n net e =
 pub first-texts : FirstTexts
 first-texts n net e = let a = accepted-as-before earlierLen n net e in (earlier-texts n net a, same-network n net a ∙ a)
 
--- ---- a text that `earlier-texts` speaks of: A of document 01
+-- ---- a text that `earlier-texts` and `first-texts` speak of: A of document 01
 
 pub earlier-met : (net : Network) × (readUpTo earlierLen (bytes A) ≡ ok net)
 unfolding readLines addTarget isTarget addOut firstBad addNode lineOf bitsLine numberLine muxLine decimals segLine startOf heldOr isSteering totalBits walkFrom bitsFrom wordOf same decimal digitsFrom parts
@@ -109,3 +110,6 @@ earlier-met = (
   },
   refl,
 )
+
+pub first-met : (net : Network) × (readWithoutReset earlierLen (bytes A) ≡ ok net)
+first-met = (earlier-met .0, sym (read-as-before earlierLen (bytes A) old-form-met) ∙ earlier-met .1)

@@ -5,11 +5,11 @@ use Rattle.model.specs.Drawn.{A, AllPrinted, resetRows, longRows}
 use Rattle.model.specs.LongRegisters.{LenBounded, earlierLen, EarlierTexts, FirstTexts}
 use Rattle.model.specs.Network.{Network}
 use Rattle.model.specs.NetworkText.{readUpTo}
-use Rattle.model.specs.Resets.{ResetsRead, ResetStarts, OldForm, ReadAsBefore, AcceptedAsBefore, ResetRefused}
+use Rattle.model.specs.Resets.{ResetsRead, ResetStarts, readWithoutReset, OldForm, ReadAsBefore, AcceptedAsBefore, ResetRefused}
 use Rattle.model.specs.Result.{ok}
 use Rattle.model.specs.Text.{bytes}
 use Rattle.model.proofs.Drawn.{rows-hold}
-use Rattle.model.proofs.EarlierTexts.{len-bounded, earlier-texts, first-texts, earlier-met}
+use Rattle.model.proofs.EarlierTexts.{len-bounded, earlier-texts, first-texts, earlier-met, first-met}
 use Rattle.model.proofs.OldForm.{read-as-before, accepted-as-before, old-form-met}
 use Rattle.model.proofs.ResetForms.{resets-read, reset-refused}
 use Rattle.model.proofs.ResetStarts.{reset-starts}
@@ -49,9 +49,12 @@ earlier = earlier-texts
 pub first : FirstTexts
 first = first-texts
 
--- the hypothesis of `earlier` can be met
+-- the hypotheses of `earlier` and of `first` can be met
 pub earlier-of-A : (net : Network) × (readUpTo earlierLen (bytes A) ≡ ok net)
 earlier-of-A = earlier-met
+
+pub first-of-A : (net : Network) × (readWithoutReset earlierLen (bytes A) ≡ ok net)
+first-of-A = first-met
 
 pub long-rows : AllPrinted longRows
 long-rows = rows-hold .2

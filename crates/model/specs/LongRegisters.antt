@@ -42,13 +42,14 @@ planUpTo most n search plan = planAnswer (andThen (readUpTo most n) (checked (le
 abbrev pub markUpTo : ℕ → Bytes → Bytes → Result Pass
 markUpTo most n p = markRead (readUpTo most n) p
 
--- the plan text that a call has put into its buffer
-abbrev pub count : Result ℕ → ℕ
-count (ok k) = k
-count (refused number place) = 0
+-- the bytes that a call has written; none where it refuses
+abbrev pub bytesWritten : Result ℕ → ℕ
+bytesWritten (ok count) = count
+bytesWritten (refused number place) = 0
 
+-- the plan text that is then in its buffer
 abbrev pub planIn : PlanAnswer → Bytes
-planIn a = take (count (a .result)) (a .plan)
+planIn a = take (bytesWritten (a .result)) (a .plan)
 
 pub record AsEarlier (n : Bytes) : Type 0 where
   pub network : readNetwork n ≡ readUpTo earlierLen n

@@ -21,12 +21,11 @@ use planner_steering::problem_of;
 use planner_steering::setting_number;
 use planner_text::Planned;
 use planner_text::write_plan;
-ghost use Prim.Native.Nat.{_≤_};
 ghost use Rattle.network_reader.specs.Reads.{uncounted};
 ghost use Rattle.planner.specs.Call.{Searchable, PlansIn, MadePlan};
 
-// The search for the plan of a network with targets: 11, or its text.
-fn search_network<'a>(
+// The plan of a network: empty without targets, else 11 or the text of the plan that the search finds.
+fn plan_network<'a>(
     nodes: &'a Nodes,
     bits: &'a Words,
     known: &'a Words,
@@ -36,9 +35,12 @@ fn search_network<'a>(
     plan: &mut [u8],
 ) -> Planned
     requires { ⌜ Searchable (uncounted (now nodes) (now bits) (now known) (now steering) summary) (now search) ⌝ }
-    requires { ⌜ 1 ≤ summary .«target_count» ⌝ }
     ensures { λ r. ⌜ PlansIn (uncounted (now (nodes .entry)) (now (bits .entry)) (now (known .entry)) (now (steering .entry)) summary) (now (search .entry)) (now (plan .entry)) r (now (search .exit)) (now (plan .exit)) ⌝ }
 {
+    if summary.target_count == 0 {
+        clear(search);
+        return Planned::Written(0);
+    }
     let problem = problem_of(nodes, steering, summary);
     let start = setting_number(bits, known, problem);
     let full = wide(power_of_2(problem.summary.target_count)) - 1;
@@ -67,26 +69,6 @@ fn search_network<'a>(
             plan,
         ),
     }
-}
-
-// The plan of a network: without targets it is empty.
-fn plan_network<'a>(
-    nodes: &'a Nodes,
-    bits: &'a Words,
-    known: &'a Words,
-    steering: &'a Words,
-    summary: Summary,
-    search: &mut [u16],
-    plan: &mut [u8],
-) -> Planned
-    requires { ⌜ Searchable (uncounted (now nodes) (now bits) (now known) (now steering) summary) (now search) ⌝ }
-    ensures { λ r. ⌜ PlansIn (uncounted (now (nodes .entry)) (now (bits .entry)) (now (known .entry)) (now (steering .entry)) summary) (now (search .entry)) (now (plan .entry)) r (now (search .exit)) (now (plan .exit)) ⌝ }
-{
-    if summary.target_count == 0 {
-        clear(search);
-        return Planned::Written(0);
-    }
-    search_network(nodes, bits, known, steering, summary, search, plan)
 }
 
 // The planner: the network's refusals, then 10, 12, 11, 13. The plan's text goes to the front of plan.
