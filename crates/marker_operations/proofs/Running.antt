@@ -32,31 +32,31 @@ use Rattle.marker_operations.proofs.Noting.{reached-more}
 
 -- ---- one operation
 
-module _ (ns : List ℕ) (t : Summary) (scan : Bytes) (k n : ℕ) (old : State) where
+module _ (ns : List ℕ) (t : Summary) (scan : Bytes) (k n len : ℕ) (old : State) where
   abbrev p : ScanPath
   p = pathAt ns n old
 
-  module _ (len : ℕ) (new : State) (r : Walked) (e : len ≡ pathLength p) (l : length scan ≡ len)
+  module _ (new : State) (r : Walked) (l : length scan ≡ len)
       (noted : Noted p (t .«target_segment») (t .«target_count») k (old .marking .firsts) (new .marking .firsts))
       (loads : Loads ns (old .way) n scan (old .marking .bits) (old .marking .known) (new .marking .bits) (new .marking .known))
       (found : FindsPath ns (new .marking .bits) (new .marking .known) (t .out) r (new .way)) where
-    op-loaded : Loaded ns t p scan k (old .marking) (new .marking)
-    op-loaded = record { as-long = l ∙ e; after = loads .loads (t .count); noted = noted }
+    op-loaded : (net : Network) → OnPath net ns t n len old → Loaded ns t p scan k (old .marking) (new .marking)
+    op-loaded net o = record { as-long = l ∙ o .found .long; after = loads .loads (t .count); noted = noted }
 
-    pub op-next : (m : ℕ) → r ≡ Path m → Operates ns t scan k n old (Next m) new
-    op-next m q net o = (
-      op-loaded,
+    pub op-next : (m long : ℕ) → r ≡ Path m long → Operates ns t scan k n len old (Next m long) new
+    op-next m long q net o = (
+      op-loaded net o,
       record {
         stored = o .stored;
-        found = found-path net ns (t .count) (t .out) (o .stored) (new .marking .bits) (new .marking .known) r (new .way) found m q;
+        found = found-path net ns (t .count) (t .out) (o .stored) (new .marking .bits) (new .marking .known) r (new .way) found m long q;
         in-limits = o .in-limits;
         sized = loads .sized;
         slots = noted .slots;
       },
     )
 
-    pub op-stop : (m : ℕ) → r ≡ Stopped m → Operates ns t scan k n old NotValid new
-    op-stop m q net o = (op-loaded, (m, found-stop net ns (t .count) (t .out) (o .stored) (new .marking .bits) (new .marking .known) r (new .way) found m q))
+    pub op-stop : (m : ℕ) → r ≡ Stopped m → Operates ns t scan k n len old NotValid new
+    op-stop m q net o = (op-loaded net o, (m, found-stop net ns (t .count) (t .out) (o .stored) (new .marking .bits) (new .marking .known) r (new .way) found m q))
 
 -- ---- the model's run, one operation on
 
@@ -84,20 +84,20 @@ module _ (net : Network) (k : ℕ) (p : ScanPath) (c : Config) (bs : List Bool) 
 
 -- ---- the loop: the run so far, and what is left of the text
 
-pub record Going (net : Network) (plan : Plan) (ns : List ℕ) (t : Summary) (text : Bytes) (whole : Result Run) (at k n : ℕ) (s : State) : Type 0 where
+pub record Going (net : Network) (plan : Plan) (ns : List ℕ) (t : Summary) (text : Bytes) (whole : Result Run) (at k n len : ℕ) (s : State) : Type 0 where
   pub ps : List ScanPath
   pub rest : Plan
   pub left : drop at text ≡ writePlan rest
   pub number : k ≡ suc (length ps)
   pub few : k ≤ suc at
-  pub on : OnPath net ns t n s
+  pub on : OnPath net ns t n len s
   pub runs : whole ≡ andThen (runFrom net k (pathAt ns n s) (configAt ns t (s .marking)) rest) (behind ps)
   pub reached : Reached t (s .marking .firsts) ps
 
 module _ (net : Network) (plan : Plan) (ns : List ℕ) (t : Summary) (text : Bytes) where
-  pub going-start : (n : ℕ) (s : State) → readPlan text ≡ ok plan → OnPath net ns t n s → Reached t (s .marking .firsts) []
-      → Going net plan ns t text (runFrom net 1 (pathAt ns n s) (configAt ns t (s .marking)) plan) 0 1 n s
-  going-start n s e o r = record {
+  pub going-start : (n len : ℕ) (s : State) → readPlan text ≡ ok plan → OnPath net ns t n len s → Reached t (s .marking .firsts) []
+      → Going net plan ns t text (runFrom net 1 (pathAt ns n s) (configAt ns t (s .marking)) plan) 0 1 n len s
+  going-start n len s e o r = record {
     ps = [];
     rest = plan;
     left = text-of text plan e .text;
@@ -108,7 +108,7 @@ module _ (net : Network) (plan : Plan) (ns : List ℕ) (t : Summary) (text : Byt
     reached = r;
   }
 
-  module _ (whole : Result Run) (at k n : ℕ) (s : State) (g : Going net plan ns t text whole at k n s) where
+  module _ (whole : Result Run) (at k n len : ℕ) (s : State) (g : Going net plan ns t text whole at k n len s) where
     abbrev c : Config
     c = configAt ns t (s .marking)
 
@@ -170,7 +170,7 @@ module _ (net : Network) (plan : Plan) (ns : List ℕ) (t : Summary) (text : Byt
             (run-on net k route c (line .bs) (line .others) w (sym (line .long) ∙ l) (ap (λ (b : List Bool). walk net (csu route b c)) (sym (line .bits-are)) ∙ e)))
 
         -- what the operation answers
-        module _ (r : Operated) (new : State) (o : Operates ns t scan k n s r new) where
+        module _ (r : Operated) (new : State) (o : Operates ns t scan k n len s r new) where
           told : (x : Operated) → r ≡ x → OperatedAs net ns t route scan k (s .marking) x new
           told x e = subst (λ (y : Operated). OperatedAs net ns t route scan k (s .marking) y new) e (o net (g .on))
 
@@ -185,9 +185,9 @@ module _ (net : Network) (plan : Plan) (ns : List ℕ) (t : Summary) (text : Byt
               let w : whole ≡ refused 16 k = on-by (stop (a .1 .0)) (a .0 .as-long) (ap (walk net) (sym (a .0 .after)) ∙ a .1 .1) in
               subst (RanAs ns t (Refused 16 k) (new .marking)) (sym w) refl
 
-          pub going-next : (m : ℕ) → r ≡ Next m → Going net plan ns t text whole (at + (5 + length scan)) (k + 1) m new
-          going-next m e =
-              let a = told (Next m) e in
+          pub going-next : (m long : ℕ) → r ≡ Next m long → Going net plan ns t text whole (at + (5 + length scan)) (k + 1) m long new
+          going-next m long e =
+              let a = told (Next m long) e in
               let z : k + 1 ≡ suc k = omega arith in
               record {
                 ps = g .ps ++ route ∷ [];
@@ -209,14 +209,14 @@ module _ (net : Network) (plan : Plan) (ns : List ℕ) (t : Summary) (s : State)
   pub start-stops : (m : ℕ) → r ≡ Stopped m → fromStart net plan (walk net (net .start)) ≡ refused 9 m
   start-stops m e = ap (fromStart net plan) (ap (walk net) (sym (h .start)) ∙ found-stop net ns (t .count) (t .out) (h .stored) (s .marking .bits) (s .marking .known) r (s .way) found m e)
 
-  pub start-on : (n : ℕ) → r ≡ Path n → OnPath net ns t n s
-  start-on n e = record {
+  pub start-on : (n len : ℕ) → r ≡ Path n len → OnPath net ns t n len s
+  start-on n len e = record {
     stored = h .stored;
-    found = found-path net ns (t .count) (t .out) (h .stored) (s .marking .bits) (s .marking .known) r (s .way) found n e;
+    found = found-path net ns (t .count) (t .out) (h .stored) (s .marking .bits) (s .marking .known) r (s .way) found n len e;
     in-limits = h .in-limits;
     sized = h .sized;
     slots = h .slots;
   }
 
-  pub start-runs : (n : ℕ) → r ≡ Path n → runFrom net 1 (pathAt ns n s) (configAt ns t (s .marking)) plan ≡ fromStart net plan (walk net (net .start))
-  start-runs n e = rw (h .start) (sym (ap (fromStart net plan) (ap (walk net) (sym (h .start)) ∙ start-on n e .found .walks)))
+  pub start-runs : (n len : ℕ) → r ≡ Path n len → runFrom net 1 (pathAt ns n s) (configAt ns t (s .marking)) plan ≡ fromStart net plan (walk net (net .start))
+  start-runs n len e = rw (h .start) (sym (ap (fromStart net plan) (ap (walk net) (sym (h .start)) ∙ start-on n len e .found .walks)))

@@ -95,16 +95,16 @@ configAt ns t m = configOf ns (m .bits) (m .known) (t .count)
 abbrev pub pathAt : List ℕ → ℕ → State → ScanPath
 pathAt ns n s = scanPath ns (take n (s .way))
 
--- the arrays hold the network and a valid configuration, with its path of n segments
-pub record OnPath (net : Network) (ns : List ℕ) (t : Summary) (n : ℕ) (s : State) : Type 0 where
+-- the arrays hold the network and a valid configuration, with its path of n segments and len bits
+pub record OnPath (net : Network) (ns : List ℕ) (t : Summary) (n len : ℕ) (s : State) : Type 0 where
   pub stored : Stored net ns (t .count) (t .out)
-  pub found : PathFound net (configAt ns t (s .marking)) ns (s .way) n
+  pub found : PathFound net (configAt ns t (s .marking)) ns (s .way) n len
   pub in-limits : InLimits t
   pub sized : ConfigSized (s .marking .bits) (s .marking .known)
   pub slots : Slots (s .marking .firsts)
 
-abbrev pub OnSomePath : List ℕ → Summary → ℕ → State → Type 0
-OnSomePath ns t n s = (net : Network) × OnPath net ns t n s
+abbrev pub OnSomePath : List ℕ → Summary → ℕ → ℕ → State → Type 0
+OnSomePath ns t n len s = (net : Network) × OnPath net ns t n len s
 
 -- operation k with the path p loaded: its targets are noted, and the words hold the configuration after it
 pub record Loaded (ns : List ℕ) (t : Summary) (p : ScanPath) (scan : Bytes) (k : ℕ) (old new : Marking) : Type 0 where
@@ -114,12 +114,12 @@ pub record Loaded (ns : List ℕ) (t : Summary) (p : ScanPath) (scan : Bytes) (k
 
 -- what an answer says of the operation in the network
 abbrev pub OperatedAs : Network → List ℕ → Summary → ScanPath → Bytes → ℕ → Marking → Operated → State → Type 0
-OperatedAs net ns t p scan k old (Next n) new = Loaded ns t p scan k old (new .marking) × OnPath net ns t n new
+OperatedAs net ns t p scan k old (Next n len) new = Loaded ns t p scan k old (new .marking) × OnPath net ns t n len new
 OperatedAs net ns t p scan k old WrongLength new = length scan ≡ pathLength p → ⊥
 OperatedAs net ns t p scan k old NotValid new = Loaded ns t p scan k old (new .marking) × ((m : ℕ) × (walk net (configAt ns t (new .marking)) ≡ stop m))
 
-abbrev pub Operates : List ℕ → Summary → Bytes → ℕ → ℕ → State → Operated → State → Type 0
-Operates ns t scan k n old r new = (net : Network) → OnPath net ns t n old → OperatedAs net ns t (pathAt ns n old) scan k (old .marking) r new
+abbrev pub Operates : List ℕ → Summary → Bytes → ℕ → ℕ → ℕ → State → Operated → State → Type 0
+Operates ns t scan k n len old r new = (net : Network) → OnPath net ns t n len old → OperatedAs net ns t (pathAt ns n old) scan k (old .marking) r new
 
 -- ---- all operations
 
@@ -128,9 +128,9 @@ abbrev pub RanAs : List ℕ → Summary → Ran → Marking → Result Run → T
 RanAs ns t r m (ok run) = (r ≡ Done) × (configAt ns t m ≡ run .last) × Reached t (m .firsts) (run .paths) × ConfigSized (m .bits) (m .known)
 RanAs ns t r m (refused number at) = r ≡ Refused number at
 
-abbrev pub RunsFrom : List ℕ → Summary → Bytes → ℕ → State → Ran → State → Type 0
-RunsFrom ns t text n old r new =
-    (net : Network) (plan : Plan) → readPlan text ≡ ok plan → OnPath net ns t n old
+abbrev pub RunsFrom : List ℕ → Summary → Bytes → ℕ → ℕ → State → Ran → State → Type 0
+RunsFrom ns t text n len old r new =
+    (net : Network) (plan : Plan) → readPlan text ≡ ok plan → OnPath net ns t n len old
     → RanAs ns t r (new .marking) (runFrom net 1 (pathAt ns n old) (configAt ns t (old .marking)) plan)
 
 -- ---- from the start

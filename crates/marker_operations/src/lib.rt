@@ -8,7 +8,6 @@ use network_path::layout::Words;
 use network_path::layout::wide;
 use network_path::load::load;
 use network_path::places::Place;
-use network_path::places::path_length;
 use network_path::places::place_of;
 use network_path::walk::Walked;
 use network_path::walk::find_path;
@@ -75,14 +74,14 @@ fn note_targets<'a>(
     }
 }
 
-// One operation: the count of segments on the new path, or what is wrong with it.
+// One operation: the count of segments on the new path and its length, or what is wrong with it.
 enum Operated {
-    Next(usize),
+    Next(usize, usize),
     WrongLength,
     NotValid,
 }
 
-// Operation k, with the path of n segments in way and the configuration in bits and known, which become those after it.
+// Operation k, with the path of n segments and len bits in way and the configuration in bits and known, which become those after it.
 fn run_operation<'a>(
     nodes: &'a Nodes,
     t: Summary,
@@ -90,15 +89,16 @@ fn run_operation<'a>(
     k: usize,
     way: &mut Way,
     n: usize,
+    len: usize,
     bits: &mut Words,
     known: &mut Words,
     first: &mut [usize; 4],
     places: &mut [usize; 4],
 ) -> Operated
-    requires { ⌜ OnSomePath (now nodes) t n (state (now way) (now bits) (now known) (now first) (now places)) × (1 ≤ k) ⌝ }
-    ensures { λ r. ⌜ Operates (now (nodes .entry)) t (now (scan .entry)) k n (state (now (way .entry)) (now (bits .entry)) (now (known .entry)) (now (first .entry)) (now (places .entry))) r (state (now (way .exit)) (now (bits .exit)) (now (known .exit)) (now (first .exit)) (now (places .exit))) ⌝ }
+    requires { ⌜ OnSomePath (now nodes) t n len (state (now way) (now bits) (now known) (now first) (now places)) × (1 ≤ k) ⌝ }
+    ensures { λ r. ⌜ Operates (now (nodes .entry)) t (now (scan .entry)) k n len (state (now (way .entry)) (now (bits .entry)) (now (known .entry)) (now (first .entry)) (now (places .entry))) r (state (now (way .exit)) (now (bits .exit)) (now (known .exit)) (now (first .exit)) (now (places .exit))) ⌝ }
 {
-    if scan.len() != path_length(nodes, way, n) {
+    if scan.len() != len {
         return Operated::WrongLength;
     }
     note_targets(
@@ -113,7 +113,7 @@ fn run_operation<'a>(
     );
     load(nodes, way, n, scan, bits, known);
     match find_path(nodes, bits, known, t.out, way) {
-        Walked::Path(next) => Operated::Next(next),
+        Walked::Path(next, long) => Operated::Next(next, long),
         Walked::Stop(_) => Operated::NotValid,
     }
 }
@@ -125,25 +125,30 @@ fn run_lines<'a>(
     plan: &'a [u8],
     way: &mut Way,
     count: usize,
+    length: usize,
     bits: &mut Words,
     known: &mut Words,
     first: &mut [usize; 4],
     places: &mut [usize; 4],
 ) -> Ran
     requires { ⌜ HasForm (now plan) ⌝ }
-    requires { ⌜ OnSomePath (now nodes) t count (state (now way) (now bits) (now known) (now first) (now places)) ⌝ }
+    requires { ⌜ OnSomePath (now nodes) t count length (state (now way) (now bits) (now known) (now first) (now places)) ⌝ }
     requires { ⌜ Reached t (firsts (now first) (now places)) [] ⌝ }
-    ensures { λ r. ⌜ RunsFrom (now (nodes .entry)) t (now (plan .entry)) count (state (now (way .entry)) (now (bits .entry)) (now (known .entry)) (now (first .entry)) (now (places .entry))) r (state (now (way .exit)) (now (bits .exit)) (now (known .exit)) (now (first .exit)) (now (places .exit))) ⌝ }
+    ensures { λ r. ⌜ RunsFrom (now (nodes .entry)) t (now (plan .entry)) count length (state (now (way .entry)) (now (bits .entry)) (now (known .entry)) (now (first .entry)) (now (places .entry))) r (state (now (way .exit)) (now (bits .exit)) (now (known .exit)) (now (first .exit)) (now (places .exit))) ⌝ }
 {
     let mut n = count;
+    let mut len = length;
     let mut at: usize = 0;
     let mut k: usize = 1;
     while at < plan.len() {
         let scan = bits_at(plan, at);
-        match run_operation(nodes, t, scan, k, way, n, bits, known, first, places) {
+        match run_operation(nodes, t, scan, k, way, n, len, bits, known, first, places) {
             Operated::WrongLength => return Ran::Refused(refusal::BIT_COUNT, k),
             Operated::NotValid => return Ran::Refused(refusal::CONFIGURATION, k),
-            Operated::Next(next) => n = next,
+            Operated::Next(next, long) => {
+                n = next;
+                len = long;
+            }
         }
         at += 5 + scan.len();
         k += 1;
@@ -167,12 +172,13 @@ pub fn run_plan<'a>(
 {
     let mut way = [0u16; MAX_NODES];
     match find_path(nodes, bits, known, t.out, &mut way) {
-        Walked::Path(count) => run_lines(
+        Walked::Path(count, length) => run_lines(
             nodes,
             t,
             plan,
             &mut way,
             count,
+            length,
             bits,
             known,
             first,

@@ -1,16 +1,18 @@
--- Every promise of document 02's Changes 1 and 4, with its proof.
+-- Every promise of document 02's Changes 1, 4 and 5, with its proof.
 -- Assumes nothing.
 use mathlib.Core.Path.{_≡_}
-use Rattle.model.specs.Drawn.{A, AllPrinted, resetRows, longRows}
+use Rattle.model.specs.Drawn.{A, AllPrinted, resetRows, longRows, AllSummed, sumRows}
 use Rattle.model.specs.LongRegisters.{LenBounded, earlierLen, EarlierTexts, FirstTexts}
 use Rattle.model.specs.Network.{Network}
 use Rattle.model.specs.NetworkText.{readUpTo}
+use Rattle.model.specs.PathSum.{PathSums}
 use Rattle.model.specs.Resets.{ResetsRead, ResetStarts, readWithoutReset, OldForm, ReadAsBefore, AcceptedAsBefore, ResetRefused}
 use Rattle.model.specs.Result.{ok}
 use Rattle.model.specs.Text.{bytes}
-use Rattle.model.proofs.Drawn.{rows-hold}
+use Rattle.model.proofs.Drawn.{rows-hold, sums-hold}
 use Rattle.model.proofs.EarlierTexts.{len-bounded, earlier-texts, first-texts, earlier-met, first-met}
 use Rattle.model.proofs.OldForm.{read-as-before, accepted-as-before, old-form-met}
+use Rattle.model.proofs.PathSums.{path-sums}
 use Rattle.model.proofs.ResetForms.{resets-read, reset-refused}
 use Rattle.model.proofs.ResetStarts.{reset-starts}
 
@@ -58,3 +60,11 @@ first-of-A = first-met
 
 pub long-rows : AllPrinted longRows
 long-rows = rows-hold .2
+
+-- ---- Change 5, "Add up the path from the other end"
+
+pub sums : PathSums
+sums = path-sums
+
+pub sum-rows : AllSummed sumRows
+sum-rows = sums-hold

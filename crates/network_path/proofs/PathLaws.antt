@@ -1,4 +1,4 @@
--- Laws of a path that the lent memory holds: its segments one after the other, its length and its places.
+-- Laws of a path that the lent memory holds: its length, its segments one after the other, and their places.
 -- Assumes nothing.
 use mathlib.Core.Path.{_≡_, refl, sym, ap, subst, _∙_}
 use mathlib.Core.Bool.{Bool, true, false, cond, _||_}
@@ -13,11 +13,14 @@ use lib.Dec.{eqb}
 use lib.ListN.{length, getD, take, drop, drop-of-length-le}
 use lib.Seq.{drop-cons, getD-take, length-take-le}
 use Rattle.model.specs.Network.{lenOf}
-use Rattle.model.specs.Path.{path, pathLength, place, on, ScanPath}
+use Rattle.model.specs.Path.{path, walkFrom, pathLength, place, on, ScanPath}
+use Rattle.model.specs.PathSum.{sumFrom}
 use Rattle.model.specs.Text.{bind}
+use Rattle.model.proofs.Lists.{some-same}
+use Rattle.model.proofs.PathSums.{sumOf, walk-sum}
 use Rattle.network_words.specs.Words.{wordWidth}
-use Rattle.network_path.specs.Layout.{nodeAt, scanPath, Way}
-use Rattle.network_path.specs.Answers.{Walkable, Walks, toldFrom, FallsFrom, HoldsPath, told, WalkHeld, FindsPath}
+use Rattle.network_path.specs.Layout.{nodeAt, lookIn, scanPath, Way}
+use Rattle.network_path.specs.Answers.{Walkable, Walks, toldFrom, FallsFrom, sumTold, HoldsPath, told, WalkHeld, FindsPath}
 use Rattle.network_path.specs.declared.walk.Walked.{Walked}
 use Rattle.network_path.specs.declared.walk.Walked.the-variants.{Path, Stop as Stopped}
 use Rattle.network_path.proofs.WalkLaws.{way-up}
@@ -26,21 +29,27 @@ use Rattle.network_path.proofs.WalkLaws.{way-up}
 
 module _ (ns bits known : List ℕ) (out : ℕ) (old : List ℕ) (r : Walked) (way : List ℕ) (asked : Walkable ns out old 0) (w : Walks ns bits known out old 0 r way) where
   pub found : FindsPath ns bits known out r way
-  found = record { tells = w .tells out (le-refl out) ∙ from-none r; holds = holds r (w .falls); size = size }
+  found = record { tells = tells; holds = holds r (w .falls) tells (w .sums out (le-refl out)); size = size }
     where
       size : length way ≡ 128
       size = w .size ∙ asked .size
 
       from-none : (r : Walked) → toldFrom ns way 0 r ≡ told ns way r
-      from-none (Path n) = ap (λ (m : ℕ). path (scanPath ns (take m way))) (sub-zero n)
+      from-none (Path n sum) = ap (λ (m : ℕ). path (scanPath ns (take m way))) (sub-zero n)
       from-none (Stopped m) = refl
 
-      holds : (r : Walked) → FallsFrom ns way out 0 r → WalkHeld ns way r
-      holds (Path n) f =
+      tells : walkFrom (nodeAt ns) (lookIn bits known) out out ≡ told ns way r
+      tells = w .tells out (le-refl out) ∙ from-none r
+
+      -- the sum is the length of the path that was found
+      holds : (r : Walked) → FallsFrom ns way out 0 r → walkFrom (nodeAt ns) (lookIn bits known) out out ≡ told ns way r
+          → sumFrom (nodeAt ns) (lookIn bits known) out out ≡ sumTold r → WalkHeld ns way r
+      holds (Path n sum) f t s =
           let a = asked .room in
           let falls : Way ns (suc out) (take n way) = subst (λ (m : ℕ). Way ns (suc out) (take m way)) (sub-zero n) (f .2) in
-          record { size = size; count = omega (arith, f .1); falls = way-up ns (suc out) 129 (take n way) (omega arith) falls }
-      holds (Stopped m) f = tt
+          let length-of : some sum ≡ some (pathLength (scanPath ns (take n way))) = sym s ∙ walk-sum (nodeAt ns) (lookIn bits known) out out ∙ ap sumOf t in
+          (record { size = size; count = omega (arith, f .1); falls = way-up ns (suc out) 129 (take n way) (omega arith) falls }, some-same _ _ length-of)
+      holds (Stopped m) f t s = tt
 
 -- ---- segment i of a path
 
@@ -69,25 +78,6 @@ module _ (ns way : List ℕ) (n : ℕ) (h : HoldsPath ns way n) where
 
   pub path-end : (i : ℕ) → n ≤ i → drop i (take n way) ≡ []
   path-end i l = drop-of-length-le (take n way) {i = i} (omega (arith, length-take-le n way (omega (arith, h .size, h .count))))
-
--- ---- the path's length: what is summed and the rest make the whole
-
-pub record Summed (ns way : List ℕ) (n i sum : ℕ) : Type 0 where
-  pub bound : sum ≤ wordWidth * i
-  pub whole : sum + pathLength (scanPath ns (drop i (take n way))) ≡ pathLength (scanPath ns (take n way))
-
-module _ (ns way : List ℕ) (n : ℕ) where
-  pub summed-none : Summed ns way n 0 0
-  summed-none = record { bound = omega arith; whole = zero-add (pathLength (scanPath ns (take n way))) }
-
-  pub summed-more : (i sum k len : ℕ) → SegmentOn ns way n i k → len ≡ lenOf (nodeAt ns k) → Summed ns way n i sum → Summed ns way n (i + 1) (sum + len)
-  summed-more i sum k len on e s =
-      let more : pathLength (scanPath ns (drop i (take n way))) ≡ lenOf (nodeAt ns k) + pathLength (scanPath ns (drop (i + 1) (take n way))) =
-      ap (λ (ks : List ℕ). pathLength (scanPath ns ks)) (on .splits) in
-      record { bound = omega arith; whole = omega arith }
-
-  pub summed-all : (i sum : ℕ) → drop i (take n way) ≡ [] → Summed ns way n i sum → sum ≡ pathLength (scanPath ns (take n way))
-  summed-all i sum l s = let rest = ap (λ (ks : List ℕ). pathLength (scanPath ns ks)) l in omega arith
 
 -- ---- a segment's place: p bits are passed, and the place among the rest makes the whole
 

@@ -4,14 +4,15 @@ use mathlib.Core.Path.{_≡_}
 use mathlib.Core.Bool.{cond, false}
 use mathlib.Core.Option.{Option, none, some}
 use mathlib.Core.List.{List, map}
-use Prim.Native.Nat.{ℕ, suc, _+_, _-_, _≤_}
+use Prim.Native.Nat.{ℕ, suc, _+_, _-_, _*_, _/_, _%_, _≤_}
 use lib.Dec.{leb}
 use lib.ListN.{length, take, drop}
 use Rattle.model.specs.Limits.{maxNodes}
 use Rattle.model.specs.Text.{Trit}
 use Rattle.model.specs.Network.{Node, segment, multiplexer}
 use Rattle.model.specs.Path.{Walk, path, stop, valueOf, pick, address, walkFrom, pathLength, csu}
-use Rattle.network_words.specs.Words.{tritAt, byteBit}
+use Rattle.model.specs.PathSum.{sumFrom}
+use Rattle.network_words.specs.Words.{wordWidth, tritAt, byteBit}
 use Rattle.network_path.specs.Layout.{nodeAt, lookIn, scanPath, configOf, Way, Safe, nodeNumbers}
 use Rattle.network_path.specs.declared.walk.Address.{Address}
 use Rattle.network_path.specs.declared.walk.Address.the-variants.{Input as AtInput, Unknown}
@@ -57,25 +58,41 @@ added way met n = take (n - met) (drop met way)
 
 -- what an answer says of the walk
 abbrev pub toldFrom : List ℕ → List ℕ → ℕ → Walked → Walk
-toldFrom ns way met (Path n) = path (scanPath ns (added way met n))
+toldFrom ns way met (Path n sum) = path (scanPath ns (added way met n))
 toldFrom ns way met (Stopped m) = stop m
 
 -- the segments added have falling numbers from this node on
 abbrev pub FallsFrom : List ℕ → List ℕ → ℕ → ℕ → Walked → Type 0
-FallsFrom ns way at met (Path n) = (met ≤ n) × (n ≤ met + at) × Way ns (suc at) (added way met n)
+FallsFrom ns way at met (Path n sum) = (met ≤ n) × (n ≤ met + at) × Way ns (suc at) (added way met n)
 FallsFrom ns way at met (Stopped m) = Unit {0}
+
+-- the sum that an answer gives; none where a multiplexer stops the walk
+abbrev pub sumTold : Walked → Option ℕ
+sumTold (Path n sum) = some sum
+sumTold (Stopped m) = none
 
 -- added to the number of the multiplexer that stops a walk
 abbrev pub stopped : ℕ
 stopped = maxNodes
 
--- the answer in one number: the count of segments met, or that of the multiplexer that stops the walk, with `stopped` added
+-- greater than every sum of bits: at most 8,192 = 128 × 64
+abbrev pub sumLimit : ℕ
+sumLimit = 10000
+
+-- the answer in one number: the sum, and above it, in units of `sumLimit`, the count of segments met, or the number of the multiplexer
+-- that stops the walk, with `stopped` added
 abbrev pub walkedBy : ℕ → Walked
-walkedBy r = cond (leb r stopped) (Path r) (Stopped (r - stopped))
+walkedBy r = cond (leb (r / sumLimit) stopped) (Path (r / sumLimit) (r % sumLimit)) (Stopped (r / sumLimit - stopped))
+
+-- both have room in the number: the sum is at most a word for each node number up to this one
+pub record InOneNumber (at r : ℕ) : Type 0 where
+  pub ended : r / sumLimit ≤ stopped + maxNodes
+  pub sum : r % sumLimit ≤ wordWidth * at
 
 -- the answer r, with `old` in the lent memory before and `way` in it after
 pub record Walks (ns bits known : List ℕ) (at : ℕ) (old : List ℕ) (met : ℕ) (r : Walked) (way : List ℕ) : Type 0 where
   pub tells : (k : ℕ) → at ≤ k → walkFrom (nodeAt ns) (lookIn bits known) k at ≡ toldFrom ns way met r
+  pub sums : (k : ℕ) → at ≤ k → sumFrom (nodeAt ns) (lookIn bits known) k at ≡ sumTold r
   pub falls : FallsFrom ns way at met r
   pub size : length way ≡ length old
   pub kept : take met way ≡ take met old
@@ -90,11 +107,11 @@ pub record HoldsPath (ns way : List ℕ) (n : ℕ) : Type 0 where
 
 -- what an answer says of the walk, and of the lent memory
 abbrev pub told : List ℕ → List ℕ → Walked → Walk
-told ns way (Path n) = path (scanPath ns (take n way))
+told ns way (Path n sum) = path (scanPath ns (take n way))
 told ns way (Stopped m) = stop m
 
 abbrev pub WalkHeld : List ℕ → List ℕ → Walked → Type 0
-WalkHeld ns way (Path n) = HoldsPath ns way n
+WalkHeld ns way (Path n sum) = HoldsPath ns way n × (sum ≡ pathLength (scanPath ns (take n way)))
 WalkHeld ns way (Stopped m) = Unit {0}
 
 -- the answer r, with `way` in the lent memory after

@@ -1,27 +1,13 @@
-// The bit places of a path: its length, and the place of a segment.
+// The place of a segment on a path.
 use crate::layout::Nodes;
 use crate::layout::Way;
 use crate::layout::segment_len;
 use crate::layout::wide;
 ghost use mathlib.Core.Path.{_≡_};
 ghost use lib.ListN.{take};
-ghost use Rattle.model.specs.Path.{pathLength, place};
+ghost use Rattle.model.specs.Path.{place};
 ghost use Rattle.network_path.specs.Layout.{scanPath};
 ghost use Rattle.network_path.specs.Answers.{HoldsPath, placed};
-
-// The count of bits of the path whose n segments way holds.
-pub fn path_length<'a>(nodes: &'a Nodes, way: &'a Way, n: usize) -> usize
-    requires { ⌜ HoldsPath (now nodes) (now way) n ⌝ }
-    ensures { λ r. ⌜ r ≡ pathLength (scanPath (now (nodes .entry)) (take n (now (way .entry)))) ⌝ }
-{
-    let mut sum: usize = 0;
-    let mut i: usize = 0;
-    while i < n {
-        sum += segment_len(nodes, wide(way[i]));
-        i += 1;
-    }
-    sum
-}
 
 // The place of a segment's bit 0 on a path, or that the segment is not on it.
 pub enum Place {

@@ -1,4 +1,4 @@
-// The walk back from scan-out: it calls itself on the next node; the node number falls.
+// The walk back from scan-out: it calls itself on the next node; the node number falls. It adds up the path's bits as it returns.
 use crate::layout;
 use crate::layout::Nodes;
 use crate::layout::Way;
@@ -6,11 +6,11 @@ use crate::layout::Words;
 use model::limits::MAX_NODES;
 use network_words::Word;
 ghost use mathlib.Core.Path.{_≡_};
-ghost use Prim.Native.Nat.{_+_, _<_, _≤_};
+ghost use Prim.Native.Nat.{_<_, _≤_};
 ghost use Rattle.model.specs.Limits.{maxNodes};
 ghost use Rattle.network_words.specs.Words.{wordWidth};
 ghost use Rattle.network_path.specs.Layout.{nodeAt, lookIn, SafeNode};
-ghost use Rattle.network_path.specs.Answers.{addressed, addressOfWords, stepOf, Walkable, walkedBy, Walks, FindsPath};
+ghost use Rattle.network_path.specs.Answers.{addressed, addressOfWords, stepOf, Walkable, walkedBy, Walks, InOneNumber, FindsPath};
 
 // The address of a multiplexer, as far as it is known.
 pub enum Address {
@@ -64,17 +64,22 @@ pub fn step_from<'a>(nodes: &'a Nodes, bits: &'a Words, known: &'a Words, at: us
     }
 }
 
-// Where a walk ends: at scan-in with so many segments met in all, or at a multiplexer.
+// Where a walk ends: at scan-in with so many segments met in all, and the sum of their bits, or at a multiplexer.
 pub enum Walked {
-    Path(usize),
+    Path(usize, usize),
     Stop(usize),
 }
 
 // Added to the number of the multiplexer that stops a walk: greater than every count of segments.
 const STOPPED: usize = MAX_NODES;
 
-// The walk from node at. The segments met are written to way, behind those met before. The answer in one number: the count of
-// segments met in all, or STOPPED and the number of the multiplexer that stops the walk.
+// Greater than every sum of bits, which is at most 8,192: in decimal, the last four digits of a walk's answer are the sum.
+const SUM_LIMIT: usize = 10_000;
+
+// The walk from node at. The segments met are written to way, behind those met before. Bits are added as the walk returns, from
+// scan-in to scan-out: a segment adds its LEN to what came back from FROM, a multiplexer hands on what came back from the addressed
+// input. The answer in one number: the sum, and above it, in units of SUM_LIMIT, the count of segments met in all, or STOPPED and the
+// number of the multiplexer that stops the walk, where the sum says nothing.
 pub fn walk<'a>(
     nodes: &'a Nodes,
     bits: &'a Words,
@@ -85,17 +90,20 @@ pub fn walk<'a>(
 ) -> usize
     requires { ⌜ Walkable (now nodes) at (now way) met ⌝ }
     ensures { λ r. ⌜ Walks (now (nodes .entry)) (now (bits .entry)) (now (known .entry)) at (now (way .entry)) met (walkedBy r) (now (way .exit)) ⌝ }
+    ensures { λ r. ⌜ InOneNumber at r ⌝ }
 {
     if at == 0 {
-        return met;
+        return met * SUM_LIMIT;
     }
     match step_from(nodes, bits, known, at) {
-        Step::Segment(to) => {
+        Step::Segment(from) => {
+            let len = layout::segment_len(nodes, at);
             way[met] = at as u16;
-            walk(nodes, bits, known, to, way, met + 1)
+            let back = walk(nodes, bits, known, from, way, met + 1);
+            len + back
         }
         Step::Input(to) => walk(nodes, bits, known, to, way, met),
-        Step::Stop => STOPPED + at,
+        Step::Stop => (STOPPED + at) * SUM_LIMIT,
     }
 }
 
@@ -103,10 +111,11 @@ pub fn walk<'a>(
 fn answer_of(r: usize) -> Walked
     ensures { λ q. ⌜ q ≡ walkedBy r ⌝ }
 {
-    if r <= STOPPED {
-        return Walked::Path(r);
+    let ended = r / SUM_LIMIT;
+    if ended <= STOPPED {
+        return Walked::Path(ended, r % SUM_LIMIT);
     }
-    Walked::Stop(r - STOPPED)
+    Walked::Stop(ended - STOPPED)
 }
 
 // The whole walk, from the node that feeds scan-out.

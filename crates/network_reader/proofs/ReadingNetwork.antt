@@ -6,7 +6,7 @@ use mathlib.Core.Option.{some}
 use mathlib.Core.List.{List, []}
 use Prim.Native.Nat.{ℕ, zero, suc, _+_, _*_, _≤_, _<_}
 use native.Mathlib.Omega.{arith}
-use lib.ListN.{length, getD, take, replicate, length-replicate}
+use lib.ListN.{length, getD, replicate, length-replicate}
 use borrow.Author.Tests.{lt-ltb, le-ltb}
 use Rattle.model.specs.Limits.{maxLen}
 use Rattle.model.specs.Result.{Result, ok, refused, refuseIf}
@@ -17,8 +17,8 @@ use Rattle.model.specs.NetworkText.{Draft, hasOut, noLines, isHeld, networkOf, 
 use Rattle.model.proofs.Accepted.{draft-formed}
 use Rattle.model.proofs.Reading.{sound-start}
 use Rattle.network_words.specs.Words.{wordWidth, wordBit, wordOfBits}
-use Rattle.network_path.specs.Layout.{nodesOf, configOf, scanPath}
-use Rattle.network_path.specs.Answers.{FindsPath, Walkable, told}
+use Rattle.network_path.specs.Layout.{nodesOf, configOf}
+use Rattle.network_path.specs.Answers.{FindsPath, Walkable, told, WalkHeld}
 use Rattle.network_path.specs.declared.walk.Walked.{Walked}
 use Rattle.network_path.specs.declared.walk.Walked.the-variants.{Path, Stop as Stopped}
 use Rattle.network_words.proofs.WordLaws.{zero-bit}
@@ -202,15 +202,14 @@ module _ {u : Uncounted} {d : Draft} {n : ℕ} (b : Begun u d n) where
           ∙ ap (λ (l : List Node). record { nodes = l; out = y .out; start = configOf ns (u .bits) (u .known) (y .count); targets = d .targets }) (sym (w .nodes-are))
           ∙ ap (λ (l : List Target). record { nodes = nodesOf ns (y .count); out = y .out; start = configOf ns (u .bits) (u .known) (y .count); targets = l }) (sym (w .targets-are))
 
-      start-found : (k : ℕ) → r ≡ Path k → finish n d (d .feeds) ≡ ok (recorded Written)
+      start-found : (k : ℕ) → r ≡ Path k len → finish n d (d .feeds) ≡ ok (recorded Written)
       start-found k e = finished ∙ ap (λ (x : Walked). ifStarts (networkOf d (y .out)) (told ns way x)) e ∙ ap ok recorded-is
 
       same-steering : (s b : ℕ) → s ≤ 128 → b < wordWidth → wordBit (getD (u .steering) s 0) b ≡ steers (nodesOf ns (y .count)) s b
       same-steering s b l m = w .steering-is s b l m ∙ ap (λ (x : List Node). steers x s b) (sym (w .nodes-are))
 
-      pub start-recorded : (k : ℕ) → r ≡ Path k → count ≡ countFrom ns (u .steering) 1 (y .count) → len ≡ pathLength (scanPath ns (take k way))
-          → EndsAs u (finish n d (d .feeds)) (Recorded count len)
-      start-recorded k e a l = (
+      pub start-recorded : (k : ℕ) → r ≡ Path k len → count ≡ countFrom ns (u .steering) 1 (y .count) → EndsAs u (finish n d (d .feeds)) (Recorded count len)
+      start-recorded k e a = (
         start-found k e,
         record {
           nodes-size = w .sized .nodes;
@@ -227,6 +226,6 @@ module _ {u : Uncounted} {d : Draft} {n : ℕ} (b : Begun u d n) where
           steering-small = w .steering-small;
           totals = w .total-is ∙ ap totalBits (sym (w .nodes-are));
           counted = a ∙ counts-steering ns (u .steering) (y .count) (start-short .0) (start-short .1) same-steering;
-          start-long = l ∙ ap (λ (x : Walk). pathLength (pathOf x)) (sym (start-walk ∙ ap (told ns way) e)) ∙ ap (λ (net : ModelNetwork). pathLength (pathIn net (net .start))) recorded-is;
+          start-long = subst (WalkHeld ns way) e (found .holds) .1 ∙ ap (λ (x : Walk). pathLength (pathOf x)) (sym (start-walk ∙ ap (told ns way) e)) ∙ ap (λ (net : ModelNetwork). pathLength (pathIn net (net .start))) recorded-is;
         },
       )

@@ -18,7 +18,6 @@ use network_path::layout::NODE_FIELDS;
 use network_path::layout::NODE_NUMBERS;
 use network_path::layout::Nodes;
 use network_path::layout::Words;
-use network_path::places::path_length;
 use network_path::walk::Walked;
 use network_path::walk::find_path;
 ghost use mathlib.Core.Path.{_≡_};
@@ -221,9 +220,8 @@ fn walk_start<'a>(
     let mut way = [0u16; MAX_NODES];
     match find_path(nodes, bits, known, t.out, &mut way) {
         Walked::Stop(m) => Ending::Refused(refusal::START, m),
-        Walked::Path(n) => {
+        Walked::Path(_, length) => {
             let count = steering_count(nodes, steering, t.count);
-            let length = path_length(nodes, &way, n);
             Ending::Recorded(count, length)
         }
     }

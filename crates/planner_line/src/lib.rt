@@ -6,7 +6,6 @@ use network_path::layout::Way;
 use network_path::layout::Words;
 use network_path::layout::segment_len;
 use network_path::layout::wide;
-use network_path::places::path_length;
 use network_words::Word;
 use network_words::bit_at;
 use plan_text::put;
@@ -173,24 +172,26 @@ fn put_operation<'a>(
     place
 }
 
-// The line of an operation along the path whose n segments way holds, written from a place on; the place behind it.
+// The line of an operation along the path whose n segments way holds, of len bits, written from a place on; the place behind it.
 pub fn put_line<'a>(
     nodes: &'a Nodes,
     steering: &'a Words,
     wants: &'a Words,
     way: &'a Way,
     n: usize,
+    len: usize,
     plan: &mut [u8],
     at: usize,
     h: usize,
     c: usize,
 ) -> usize
     requires { ⌜ HasRoom (now nodes) (now way) n (at + 5) (now plan) ⌝ }
+    requires { ⌜ len ≡ pathLength (scanPath (now nodes) (take n (now way))) ⌝ }
     ensures { λ r. ⌜ r ≡ at + (5 + pathLength (scanPath (now (nodes .entry)) (take n (now (way .entry))))) ⌝ }
     ensures { λ _. ⌜ LinePut (now (nodes .entry)) (now (steering .entry)) (now (wants .entry)) (now (way .entry)) n at h c (now (plan .entry)) (now (plan .exit)) ⌝ }
 {
     let start = put(plan, at, b"csu\t");
-    put_repeated(plan, start, b'0', path_length(nodes, way, n));
+    put_repeated(plan, start, b'0', len);
     let end = put_operation(nodes, steering, wants, way, n, plan, start, h, c);
     put(plan, end, b"\n")
 }

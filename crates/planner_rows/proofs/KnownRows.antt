@@ -62,8 +62,10 @@ module _ (ns steering : List ℕ) (pb : Problem) (old : List ℕ) (rows : RowsRi
     stop-known m new e u = rows-more new (λ net p. row-stopped net x m old new (w net p .tells ∙ ap (told ns way) e) u) (u .outside) (u .size)
 
     -- what `write_path` asks, and its row
-    pub path-is : (net : Network) → Prepared net ns steering pb → (n : ℕ) → r ≡ Path n → PathIs net ns steering pb way n x
-    path-is net p n e = record { prepared = p; holds = subst (WalkHeld ns way) e (w net p .holds); tells = w net p .tells ∙ ap (told ns way) e }
+    pub path-is : (net : Network) → Prepared net ns steering pb → (n len : ℕ) → r ≡ Path n len → PathIs net ns steering pb way n len x
+    path-is net p n len e =
+        let h : WalkHeld ns way (Path n len) = subst (WalkHeld ns way) e (w net p .holds) in
+        record { prepared = p; holds = h .0; tells = w net p .tells ∙ ap (told ns way) e; long = h .1 }
 
-    pub path-known : (n : ℕ) (new : List ℕ) → r ≡ Path n → RowRead ns steering pb way n x old new → RowsRight ns steering pb new
-    path-known n new e q = rows-more new (λ net p. q .row net (path-is net p n e)) (q .outside) (q .size)
+    pub path-known : (n len : ℕ) (new : List ℕ) → r ≡ Path n len → RowRead steering pb way n len x old new → RowsRight ns steering pb new
+    path-known n len new e q = rows-more new (λ net p. q .row ns net (path-is net p n len e)) (q .outside) (q .size)

@@ -7,7 +7,7 @@ use native.Mathlib.Omega.{arith}
 use lib.ListN.{length, getD, take}
 use lib.Seq.{length-take-le, getD-take}
 use Rattle.model.specs.Network.{Network, steeringBits}
-use Rattle.model.specs.Path.{ScanPath, pathOf, pathLength}
+use Rattle.model.specs.Path.{ScanPath, pathOf}
 use Rattle.network_path.specs.Layout.{scanPath}
 use Rattle.planner_theory.specs.Settings.{order, baseOf}
 use Rattle.planner_theory.specs.Moves.{maskOf, onPath}
@@ -36,8 +36,8 @@ module _ (pb : Problem) (way : List ℕ) (n : ℕ) (arr : List ℕ) (m : ℕ) (o
 
   module _ (marks : List ℕ) (marked : PathMarked way n marks) (x width mask base len : ℕ) (wide : width ≡ 2 ^ m) (masked : MaskBy marks (pb .summary) mask) (based : BaseBy marks (pb .segments) (pb .width) x base)
       (old new : List ℕ) (row : RowWritten old x width mask base len arr m new) where
-    row-of : (net : Network) (ns steering : List ℕ) → len ≡ pathLength (scanPath ns (take n way)) → PathIs net ns steering pb way n x → RowOf net new x
-    row-of net ns steering long q = record {
+    row-of : (net : Network) (ns steering : List ℕ) → PathIs net ns steering pb way n len x → RowOf net new x
+    row-of net ns steering q = record {
       count-is = row .count-is ∙ wide ∙ ap (λ (i : ℕ). 2 ^ i) many ∙ sym (count-path net x P (q .tells));
       gain-is = row .gain-is ∙ masked ns P (marked .marked ns) ∙ ap (maskOf (onPath P)) (sym (q .prepared .targets-are)) ∙ sym (gain-path net x P (q .tells));
       routed = λ p e. subst (Routed net new x) (ap pathOf (sym (q .tells) ∙ e)) routed;
@@ -52,7 +52,7 @@ module _ (pb : Problem) (way : List ℕ) (n : ℕ) (arr : List ℕ) (m : ℕ) (o
         routed : Routed net new x P
         routed = record {
           base-is = row .base-is ∙ based .is P (marked .marked ns) (pb .places) ∙ ap (λ (sb : List (ℕ × ℕ)). baseOf sb P x) (q .prepared .bits-are);
-          length-is = row .length-is ∙ long;
+          length-is = row .length-is ∙ q .long;
           order-is = λ i l.
               let z : i < m = omega (arith, many) in
               row .order-is i z ∙ order-at ns (m - suc i) (omega arith)
@@ -60,5 +60,5 @@ module _ (pb : Problem) (way : List ℕ) (n : ℕ) (arr : List ℕ) (m : ℕ) (o
               ∙ ap (λ (j : ℕ). getD (order (steeringBits (net .nodes)) P) (j - suc i) 0) many;
         }
 
-    pub row-read : (ns steering : List ℕ) → len ≡ pathLength (scanPath ns (take n way)) → RowRead ns steering pb way n x old new
-    row-read ns steering long = record { row = λ net q. row-of net ns steering long q; known = row .known; outside = row .outside; size = row .size }
+    pub row-read : (steering : List ℕ) → RowRead steering pb way n len x old new
+    row-read steering = record { row = λ ns net q. row-of net ns steering q; known = row .known; outside = row .outside; size = row .size }

@@ -69,17 +69,18 @@ pub record RowOf (net : Network) (rows : List ℕ) (x : ℕ) : Type 0 where
   pub gain-is : rowNumber rows x 2 ≡ gain net x
   pub routed : (p : ScanPath) → walkAt net x ≡ path p → Routed net rows x p
 
--- the arrays hold the network, and the path of n segments is that of setting x
-pub record PathIs (net : Network) (ns steering : List ℕ) (p : Problem) (way : List ℕ) (n x : ℕ) : Type 0 where
+-- the arrays hold the network, and the path of n segments and len bits is that of setting x
+pub record PathIs (net : Network) (ns steering : List ℕ) (p : Problem) (way : List ℕ) (n len x : ℕ) : Type 0 where
   pub prepared : Prepared net ns steering p
   pub holds : HoldsPath ns way n
   pub tells : walkAt net x ≡ path (scanPath ns (take n way))
+  pub long : len ≡ pathLength (scanPath ns (take n way))
 
-abbrev pub PathRead : List ℕ → List ℕ → Problem → List ℕ → ℕ → ℕ → Type 0
-PathRead ns steering p way n x = (net : Network) × PathIs net ns steering p way n x
+abbrev pub PathRead : List ℕ → Problem → List ℕ → ℕ → ℕ → ℕ → Type 0
+PathRead steering p way n len x = (ns : List ℕ) × (net : Network) × PathIs net ns steering p way n len x
 
-pub record RowRead (ns steering : List ℕ) (p : Problem) (way : List ℕ) (n x : ℕ) (old new : List ℕ) : Type 0 where
-  pub row : (net : Network) → PathIs net ns steering p way n x → RowOf net new x
+pub record RowRead (steering : List ℕ) (p : Problem) (way : List ℕ) (n len x : ℕ) (old new : List ℕ) : Type 0 where
+  pub row : (ns : List ℕ) (net : Network) → PathIs net ns steering p way n len x → RowOf net new x
   pub known : rowNumber new x 0 ≡ 1
   pub outside : Outside old x new
   pub size : length new ≡ rowNumbers

@@ -8,7 +8,6 @@ use network_path::layout::Nodes;
 use network_path::layout::Way;
 use network_path::layout::Words;
 use network_path::layout::wide;
-use network_path::places::path_length;
 use network_path::walk::Walked;
 use planner_settings::Marks;
 use planner_settings::base_of;
@@ -111,19 +110,19 @@ fn write_row(
     write_order(rows, x, order, m);
 }
 
-// The row of setting x with the path whose n segments way holds.
+// The row of setting x with the path whose n segments way holds, of len bits.
 fn write_path<'a>(
-    nodes: &'a Nodes,
     steering: &'a Words,
     problem: Problem,
     way: &'a Way,
     n: usize,
+    len: usize,
     x: usize,
     rows: &mut Rows,
 )
-    requires { ⌜ PathRead (now nodes) (now steering) problem (now way) n x ⌝ }
+    requires { ⌜ PathRead (now steering) problem (now way) n len x ⌝ }
     requires { ⌜ (length (now rows) ≡ rowNumbers) × (x < maxSettings) ⌝ }
-    ensures { λ _. ⌜ RowRead (now (nodes .entry)) (now (steering .entry)) problem (now (way .entry)) n x (now (rows .entry)) (now (rows .exit)) ⌝ }
+    ensures { λ _. ⌜ RowRead (now (steering .entry)) problem (now (way .entry)) n len x (now (rows .entry)) (now (rows .exit)) ⌝ }
 {
     let mut marks: Marks = [0; NODE_NUMBERS];
     mark_path(way, n, &mut marks);
@@ -138,7 +137,6 @@ fn write_path<'a>(
     );
     let gain = mask_of_targets(&marks, problem.summary);
     let base = base_of(&marks, &problem.segments, problem.width, x);
-    let len = path_length(nodes, way, n);
     write_row(
         rows,
         x,
@@ -170,7 +168,7 @@ fn read_row<'a>(nodes: &'a Nodes, steering: &'a Words, problem: Problem, x: usiz
     let mut way: Way = [0; MAX_NODES];
     match walk_setting(nodes, steering, problem, x, &mut way) {
         Walked::Stop(_) => write_stop(rows, x),
-        Walked::Path(n) => write_path(nodes, steering, problem, &way, n, x, rows),
+        Walked::Path(n, len) => write_path(steering, problem, &way, n, len, x, rows),
     }
 }
 

@@ -9,7 +9,7 @@ use Rattle.model.specs.Network.{Target, Network, steeringBits}
 use Rattle.model.specs.Path.{path, pathLength}
 use Rattle.model.specs.Plan.{wanted}
 use Rattle.network_path.specs.Layout.{scanPath}
-use Rattle.network_path.specs.Answers.{HoldsPath, WalkHeld, told}
+use Rattle.network_path.specs.Answers.{WalkHeld, told}
 use Rattle.network_path.specs.declared.walk.Walked.{Walked}
 use Rattle.network_path.specs.declared.walk.Walked.the-variants.{Path, Stop as Stopped}
 use Rattle.planner_theory.specs.Moves.{land, StepOf}
@@ -143,22 +143,28 @@ module _ {ns steering : List ℕ} {pb : Problem} {start : ℕ} {picked : List �
       pub writing-stops : (m : ℕ) → r ≡ Stopped m → Writes ns steering pb start picked n old buf
       writing-stops m e net cs o = absurd (no-stop (turn-step (o .counts) (s net cs o .passed) l refl) m (w net (o .counts .prepared) .tells ∙ ap (told ns way) e))
 
-      module _ (m : ℕ) (e : r ≡ Path m) where
+      module _ (m len : ℕ) (e : r ≡ Path m len) where
         path-walk : {net : Network} → Prepared net ns steering pb → walkAt net x ≡ path (scanPath ns (take m way))
         path-walk {net} p = w net p .tells ∙ ap (told ns way) e
 
         -- what `put_line` asks
-        pub writing-room : {net : Network} {cs : List ℕ} → WritesOf net ns steering pb start picked n old cs → HasRoom ns way m (place + 5) buf
+        path-held : {net : Network} → Prepared net ns steering pb → WalkHeld ns way (Path m len)
+        path-held {net} p = subst (WalkHeld ns way) e (w net p .holds)
+
+        pub writing-room : {net : Network} {cs : List ℕ} → WritesOf net ns steering pb start picked n old cs
+            → HasRoom ns way m (place + 5) buf × (len ≡ pathLength (scanPath ns (take m way)))
         writing-room {net} {cs} o =
             let q = o .counts in
             let f = s net cs o .passed in
-            let holds : HoldsPath ns way m = subst (WalkHeld ns way) e (w net (q .prepared) .holds) in
-            line-room ns way m place buf holds
-            (omega (
-              arith,
-              s net cs o .size,
-              text-room net (q .prepared .accepted) cs i (getD picked i 0) (inside q f l) (choice-is q f l refl) (scanPath ns (take m way)) (path-walk (q .prepared)) (s net cs o) (o .room),
-            ))
+            let held = path-held (q .prepared) in (
+              line-room ns way m place buf (held .0)
+                  (omega (
+                    arith,
+                    s net cs o .size,
+                    text-room net (q .prepared .accepted) cs i (getD picked i 0) (inside q f l) (choice-is q f l refl) (scanPath ns (take m way)) (path-walk (q .prepared)) (s net cs o) (o .room),
+                  )),
+              held .1,
+            )
 
         pub writing-more : {rows : List ℕ} → RowsRight ns steering pb rows → rowNumber rows x 0 ≡ 1 → {c : ℕ} → c ≡ getD picked i 0
             → {h next end : ℕ} {new : List ℕ} → h ≡ rowNumber rows x 1 → LandIn rows x c next → end ≡ place + (5 + pathLength (scanPath ns (take m way)))

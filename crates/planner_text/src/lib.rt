@@ -100,13 +100,13 @@ fn write_text<'a>(
     let mut i: usize = 0;
     while i < n {
         let walked = walk_setting(nodes, steering, problem, x, &mut way);
-        let Walked::Path(m) = walked else {
+        let Walked::Path(m, len) = walked else {
             return;
         };
         know_row(nodes, steering, problem, x, rows);
         let c = as_index(picked[i]);
         let h = number(rows, x, COUNT);
-        at = put_line(nodes, steering, &wants, &way, m, plan, at, h, c);
+        at = put_line(nodes, steering, &wants, &way, m, len, plan, at, h, c);
         x = land_of(rows, x, c);
         i += 1;
     }

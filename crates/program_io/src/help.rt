@@ -6,7 +6,7 @@ use crate::output::put_part;
 use crate::status::ANSWERED;
 use crate::status::NO_ANSWER;
 
-const VERSION: [u8; 3] = *b"1.4";
+const VERSION: [u8; 3] = *b"1.5";
 
 pub fn put_version(name: &[u8]) -> u8 {
     let mut line = [0u8; 64];

@@ -1,26 +1,25 @@
 //! Writes the antt modules that say what the definitions of the crate `model` must give for
-//! generated texts into a folder: `definition_rows FOLDER MODULES`, so many modules of each kind.
-//! Fails if the rows lose a form. The script tests/definitions has the modules checked.
+//! generated texts into a folder: `definition_rows FOLDER MODULES`, so many modules of each kind and one of
+//! the sums in networks near the limits. Fails if the rows lose a form. The script tests/definitions has the
+//! modules checked.
 
 mod antt_text;
+mod program_rows;
+mod sum_rows;
 
 use std::collections::BTreeMap;
 use std::path::Path;
 
-use antt_text::literal;
 use penthluk_reference::generate::cases::{case, Case};
 use penthluk_reference::generate::long_cases::long_case;
 use penthluk_reference::generate::long_forms::long_forms;
 use penthluk_reference::generate::reset_cases::reset_case;
 use penthluk_reference::generate::reset_forms::reset_forms;
-use penthluk_reference::limits::{EARLIER_SEGMENT_BITS, MAX_PLAN_BYTES, SEARCH_ENTRIES};
-use penthluk_reference::marker::mark;
-use penthluk_reference::plan_text::plan_lines;
-use penthluk_reference::planner::make_plan;
-use penthluk_reference::programs;
-use penthluk_reference::reader::{read_network, read_network_up_to};
-use penthluk_reference::steering::steering_bits;
-use penthluk_reference::text::{fields, lines};
+use penthluk_reference::reader::read_network;
+use program_rows::{
+    is_searched, is_small, long_plan_rows, long_rows, network_rows, plan_rows, text_rows,
+};
+use sum_rows::{limit_rows, sum_forms, sum_rows};
 
 /// The least counts hold for so many modules and more.
 const MODULES: usize = 12;
@@ -35,8 +34,8 @@ struct Kind {
     rows: fn(&Case) -> Vec<String>,
     /// The cases of a module.
     cases: usize,
-    forms: fn(&[u8]) -> Vec<&'static str>,
-    /// How many cases of twelve modules at least have a form.
+    forms: fn(&Case) -> Vec<&'static str>,
+    /// How many cases, or rows of sums, of twelve modules at least have a form.
     least: &'static [(&'static str, usize)],
 }
 
@@ -50,10 +49,26 @@ const KINDS: [Kind; 6] = [
         seed: 0,
         draw: case,
         chosen: |case| is_small(case, MOST),
-        rows: text_rows,
+        rows: |case| [text_rows(case), sum_rows(case)].concat(),
         cases: 30,
-        forms: reset_forms,
-        least: &[("no RESET", 355)],
+        forms: |case| [reset_forms(&case.network), sum_forms(case)].concat(),
+        least: &[
+            ("no RESET", 355),
+            ("sums at the start", 250),
+            ("sums after a plan", 160),
+            ("walk that stops", 6),
+            ("no node met", 10),
+            ("node passed by", 350),
+            ("node that is not before scan-out", 30),
+            ("multiplexer of two inputs met", 320),
+            ("multiplexer of three inputs met", 70),
+            ("multiplexer of four inputs met", 55),
+            ("multiplexer that feeds scan-out", 220),
+            ("multiplexer that leads to scan-in", 95),
+            ("two multiplexers in a row", 150),
+            ("other input with the same sum", 95),
+            ("same sum at three nodes", 140),
+        ],
     },
     Kind {
         name: "Plans",
@@ -62,7 +77,7 @@ const KINDS: [Kind; 6] = [
         chosen: |case| is_small(case, MOST) && is_searched(&case.network, 6),
         rows: plan_rows,
         cases: 40,
-        forms: reset_forms,
+        forms: |case| reset_forms(&case.network),
         least: &[("no RESET", 470)],
     },
     Kind {
@@ -70,15 +85,20 @@ const KINDS: [Kind; 6] = [
         seed: 0,
         draw: reset_case,
         chosen: |case| is_small(case, MOST),
-        rows: network_rows,
+        rows: |case| [network_rows(case), sum_rows(case)].concat(),
         cases: 25,
-        forms: reset_forms,
+        forms: |case| [reset_forms(&case.network), sum_forms(case)].concat(),
         least: &[
             ("accepted, with RESET", 110),
             ("refused with 18", 10),
             ("hold over RESET", 18),
             ("RESET that opens another path", 20),
             ("9 by RESET", 20),
+            ("sums at the start", 155),
+            ("sums after a plan", 105),
+            ("walk that stops", 6),
+            ("multiplexer that leads to scan-in", 65),
+            ("two multiplexers in a row", 90),
         ],
     },
     Kind {
@@ -88,7 +108,7 @@ const KINDS: [Kind; 6] = [
         chosen: |case| is_small(case, MOST) && is_searched(&case.network, 6),
         rows: plan_rows,
         cases: 20,
-        forms: reset_forms,
+        forms: |case| reset_forms(&case.network),
         least: &[
             ("accepted, with RESET", 60),
             ("refused with 18", 10),
@@ -102,9 +122,9 @@ const KINDS: [Kind; 6] = [
         seed: 0,
         draw: long_case,
         chosen: |case| is_small(case, MOST_LONG),
-        rows: long_rows,
+        rows: |case| [long_rows(case), sum_rows(case)].concat(),
         cases: 20,
-        forms: long_forms,
+        forms: |case| [long_forms(&case.network), sum_forms(case)].concat(),
         least: &[
             ("accepted before Change 4", 9),
             ("accepted since Change 4", 70),
@@ -126,6 +146,11 @@ const KINDS: [Kind; 6] = [
             ("6, write of 65 for 64", 1),
             ("9, one X of 64 in a hold", 2),
             ("9, address too high above bit 31", 4),
+            ("sums at the start", 85),
+            ("sums after a plan", 55),
+            ("walk that stops", 3),
+            ("multiplexer that feeds scan-out", 33),
+            ("sum above 255", 2),
         ],
     },
     Kind {
@@ -135,7 +160,7 @@ const KINDS: [Kind; 6] = [
         chosen: is_long_plan,
         rows: long_plan_rows,
         cases: 10,
-        forms: long_forms,
+        forms: |case| long_forms(&case.network),
         least: &[
             ("accepted before Change 4", 20),
             ("accepted since Change 4", 75),
@@ -157,31 +182,35 @@ fn main() {
         std::process::exit(2);
     };
     let modules: usize = modules.parse().expect("MODULES");
+    let write = |name: &str, rows: Vec<String>| {
+        let text = format!("{HEAD}{}\n    ∷ []\n{TAIL}", rows.join("\n    ∷ "));
+        std::fs::write(Path::new(folder).join(format!("{name}.antt")), text).expect("FOLDER");
+    };
     for kind in KINDS {
         let mut counts = Counts::new();
         for module in 1..=modules {
-            let text = draw_module(&kind, module, &mut counts);
-            let path = Path::new(folder).join(format!("{}{module}.antt", kind.name));
-            std::fs::write(path, text).expect("FOLDER");
+            let rows = draw_module(&kind, module, &mut counts);
+            write(&format!("{}{module}", kind.name), rows);
         }
         check_counts(&kind, modules, &counts);
     }
+    write("SumLimits", limit_rows());
 }
 
-/// How many cases have each form.
+/// How many cases, or rows of sums, have each form.
 type Counts = BTreeMap<&'static str, usize>;
 
-/// The text of a module. Counts the forms of its cases.
-fn draw_module(kind: &Kind, module: usize, counts: &mut Counts) -> String {
+/// The rows of a module. Counts the forms of its cases.
+fn draw_module(kind: &Kind, module: usize, counts: &mut Counts) -> Vec<String> {
     let seeds = kind.seed + module as u64 * 1_000..;
     let mut rows = Vec::new();
     for case in seeds.map(kind.draw).filter(kind.chosen).take(kind.cases) {
-        for form in (kind.forms)(&case.network) {
+        for form in (kind.forms)(&case) {
             *counts.entry(form).or_default() += 1;
         }
         rows.extend((kind.rows)(&case));
     }
-    format!("{HEAD}{}\n    ∷ []\n{TAIL}", rows.join("\n    ∷ "))
+    rows
 }
 
 /// Fails if a form comes too seldom.
@@ -193,113 +222,10 @@ fn check_counts(kind: &Kind, modules: usize, counts: &Counts) {
     }
 }
 
-/// The rows of `read`, `mark` and `clock`.
-fn text_rows(case: &Case) -> Vec<String> {
-    let clocks = programs::clock(&case.plan);
-    let refused = plan_lines(&case.plan).is_err();
-    [network_rows(case), vec![row("clocking", b"", &case.plan, &clocks, refused)]].concat()
-}
-
-/// The rows of `read`, with RESET and without, and of `mark`.
-fn network_rows(case: &Case) -> Vec<String> {
-    let (network, plan) = (&case.network, &case.plan);
-    let (read, marked) = (programs::read(network), programs::mark(network, plan));
-    let old = without_reset(network);
-    vec![
-        row("reading", network, b"", &read, read_network(network).is_err()),
-        row("reading-without", network, b"", &programs::read(&old), read_network(&old).is_err()),
-        row("marking", network, plan, &marked, mark(network, plan).is_err()),
-    ]
-}
-
-/// The rows of `read` and of `mark`, up to 64 bits and up to 32.
-fn long_rows(case: &Case) -> Vec<String> {
-    let (network, plan) = (&case.network, &case.plan);
-    let earlier = read_network_up_to(EARLIER_SEGMENT_BITS, network);
-    let refused = earlier.is_err();
-    let read = programs::shown(earlier);
-    let (marked, failed) = (programs::mark(network, plan), mark(network, plan).is_err());
-    let marked_earlier = if refused { &read } else { &marked };
-    vec![
-        row("reading", network, b"", &programs::read(network), read_network(network).is_err()),
-        row("reading-earlier", network, b"", &read, refused),
-        row("marking", network, plan, &marked, failed),
-        row("marking-earlier", network, plan, marked_earlier, refused || failed),
-    ]
-}
-
-/// The rows of `plan`, up to 64 bits and up to 32, and the text in a buffer of as many bytes, and of one less.
-fn long_plan_rows(case: &Case) -> Vec<String> {
-    let network = &case.network;
-    let earlier = read_network_up_to(EARLIER_SEGMENT_BITS, network);
-    let (planned, failed) = (programs::plan(network), is_refused(network));
-    let refused = earlier.is_err();
-    let printed = if refused { programs::shown(earlier) } else { planned.clone() };
-    let buffer = vec![b'x'; planned.len()];
-    let written = if refused || failed { b"" } else { &planned[..] };
-    vec![
-        row("planning", network, b"", &planned, failed),
-        row("planning-earlier", network, b"", &printed, refused || failed),
-        row("calling-earlier", network, &buffer, written, false),
-        row("calling-earlier", network, &buffer[..buffer.len().saturating_sub(1)], b"", false),
-    ]
-}
-
-/// The text as a reader sees it that knows no RESET: a `seg` line of five fields has a wrong form.
-fn without_reset(network: &[u8]) -> Vec<u8> {
-    let mut text = Vec::new();
-    for line in lines(network) {
-        match fields(line.bytes).as_slice() {
-            [b"seg", _, _, _, _] => text.extend(b"seg"),
-            _ => text.extend(line.bytes),
-        }
-        text.extend(line.ended.then_some(b'\n'));
-    }
-    text
-}
-
-/// The row of `plan`.
-fn plan_rows(case: &Case) -> Vec<String> {
-    let planned = programs::plan(&case.network);
-    vec![row("planning", &case.network, b"", &planned, is_refused(&case.network))]
-}
-
-fn row(program: &str, network: &[u8], plan: &[u8], output: &[u8], refused: bool) -> String {
-    let [network, plan, output] =
-        [network, plan, output].map(|text| literal(text).expect("printable"));
-    format!("    row {program} {network} {plan} {output} {}", u8::from(refused))
-}
-
-/// Whether the case's texts are small and hold no byte that no text literal has.
-fn is_small(case: &Case, [network, plan]: [usize; 2]) -> bool {
-    let small = |text: &[u8], most: usize| text.len() <= most && literal(text).is_some();
-    small(&case.network, network) && small(&case.plan, plan)
-}
-
 /// Whether the case's network is small and accepted and needs little search.
 fn is_long_plan(case: &Case) -> bool {
     let accepted = read_network(&case.network).is_ok();
     accepted && is_small(case, MOST_LONG) && is_searched(&case.network, 4)
-}
-
-/// Whether the planner refuses a network text.
-fn is_refused(network: &[u8]) -> bool {
-    make_plan(network, &mut vec![0; SEARCH_ENTRIES], &mut vec![0; MAX_PLAN_BYTES]).is_err()
-}
-
-/// Whether the definition of the search can be computed for the network: steering bits times operations
-/// are at most so many.
-fn is_searched(text: &[u8], most: usize) -> bool {
-    let Ok(network) = read_network(text) else {
-        return true;
-    };
-    let output = programs::plan(text);
-    let steering = steering_bits(&network.nodes).len();
-    if output.starts_with(b"fail\t11") {
-        return steering == 0;
-    }
-    let operations = output.iter().filter(|&&byte| byte == b'\n').count();
-    output.starts_with(b"fail") || steering * operations <= most
 }
 
 const HEAD: &str = include_str!("definition_rows_head.txt");

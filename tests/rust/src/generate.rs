@@ -25,6 +25,7 @@ pub mod long_forms;
 pub mod long_registers;
 pub mod maze;
 pub mod near;
+pub mod path_sum_forms;
 pub mod plan_damage;
 pub mod plans;
 pub mod random;

@@ -12,18 +12,24 @@ pub fn walk(network: &Network, configuration: &[Vec<Bit>]) -> Result<Vec<usize>,
     let mut path = Vec::new();
     let mut number = network.out;
     while number != 0 {
-        number = match &network.nodes[number - 1] {
-            Node::Segment { from, .. } => {
-                path.push(number);
-                *from
-            }
-            Node::Multiplexer { seg, bit, inputs } => {
-                let address = address(&configuration[*seg - 1], *bit, inputs.len());
-                *address.and_then(|input| inputs.get(input)).ok_or(number)?
-            }
-        };
+        if let Node::Segment { .. } = network.nodes[number - 1] {
+            path.push(number);
+        }
+        number = leads_to(network, configuration, number).ok_or(number)?;
     }
     Ok(path)
+}
+
+/// "a segment leads to FROM, a multiplexer to the addressed input". `None` if an address bit is unknown
+/// or the address is not below the count of inputs.
+pub fn leads_to(network: &Network, configuration: &[Vec<Bit>], number: usize) -> Option<usize> {
+    match &network.nodes[number - 1] {
+        Node::Segment { from, .. } => Some(*from),
+        Node::Multiplexer { seg, bit, inputs } => {
+            let address = address(&configuration[*seg - 1], *bit, inputs.len());
+            address.and_then(|input| inputs.get(input).copied())
+        }
+    }
 }
 
 /// "The address is bit BIT of segment SEG for two inputs, and BIT + 2 × (the bit above) by their

@@ -16,13 +16,13 @@ use Rattle.marker_operations.proofs.run_lines.Statement.{statement}
 use Rattle.marker_operations.proofs.run_lines.Tie as tie
 
 abbrev Inv-loop : tie.InvT-loop
-Inv-loop nodes t plan way₀ count bits₀ known₀ first₀ places₀ n₀ at₀ k₀ way bits known first places n at k =
+Inv-loop nodes t plan way₀ count len₁ bits₀ known₀ first₀ places₀ n₀ len₀ at₀ k₀ way bits known first places n len at k =
     let start = state way₀ bits₀ known₀ first₀ places₀ in
-    (net : Network) (whole : Plan) → readPlan plan ≡ ok whole → OnPath net nodes t count start
-    → Going net whole nodes t plan (runFrom net 1 (pathAt nodes count start) (configAt nodes t (start .marking)) whole) at k n (state way bits known first places)
+    (net : Network) (whole : Plan) → readPlan plan ≡ ok whole → OnPath net nodes t count len₁ start
+    → Going net whole nodes t plan (runFrom net 1 (pathAt nodes count start) (configAt nodes t (start .marking)) whole) at k n len (state way bits known first places)
 
 abbrev μ-loop : tie.MeasureT-loop
-μ-loop nodes t plan way₀ count bits₀ known₀ first₀ places₀ n₀ at₀ k₀ way bits known first places n at k = length plan - at
+μ-loop nodes t plan way₀ count len₁ bits₀ known₀ first₀ places₀ n₀ len₀ at₀ k₀ way bits known first places n len at k = length plan - at
 
 -- the line lies in the text, and the lines before it have a byte each
 fits : (c : tie.After-bits-at Inv-loop μ-loop)
@@ -31,15 +31,15 @@ fits c =
     let l = c .before .before in
     let s = l .before .before in
     let g = l .loop .inv (s .pre .1 .0 .0) (s .pre .0 .0) (s .pre .0 .1) (s .pre .1 .0 .1) in
-    (going-further _ _ _ _ _ _ _ _ _ _ g (c .before .loop-test .taken) _ (c .bits-at .ensures), g .few)
+    (going-further _ _ _ _ _ _ _ _ _ _ _ g (c .before .loop-test .taken) _ (c .bits-at .ensures), g .few)
 
 loop-holds : tie.Need-loop-holds Inv-loop μ-loop
-loop-holds c = λ net whole e o. going-start _ _ _ _ _ _ _ e o (c .before .pre .1 .1)
+loop-holds c = λ net whole e o. going-start _ _ _ _ _ _ _ _ e o (c .before .pre .1 .1)
 
 bits-at-requires : tie.Need-bits-at-requires Inv-loop μ-loop
 bits-at-requires c κs =
     let s = c .before .before .before in
-    going-room _ _ _ _ _ _ _ _ _ _ (c .before .loop .inv (s .pre .1 .0 .0) (s .pre .0 .0) (s .pre .0 .1) (s .pre .1 .0 .1)) (c .loop-test .taken)
+    going-room _ _ _ _ _ _ _ _ _ _ _ (c .before .loop .inv (s .pre .1 .0 .0) (s .pre .0 .0) (s .pre .0 .1) (s .pre .1 .0 .1)) (c .loop-test .taken)
 
 run-operation-requires : tie.Need-run-operation-requires Inv-loop μ-loop
 run-operation-requires c κs =
@@ -55,7 +55,7 @@ returns : tie.Need-returns Inv-loop μ-loop
 returns c =
     let o = c .before .before in
     let l = o .before .before .before .before .before .before .before .before in
-    λ net whole e p. going-wrong-length _ _ _ _ _ _ _ _ _ _ (l .loop .inv net whole e p) (o .before .before .before .before .before .before .before .loop-test .taken) _ (o .before .before .before .before .before .before .bits-at .ensures) _ _ (o .run-operation .ensures) (c .enum-told .given .1)
+    λ net whole e p. going-wrong-length _ _ _ _ _ _ _ _ _ _ _ (l .loop .inv net whole e p) (o .before .before .before .before .before .before .before .loop-test .taken) _ (o .before .before .before .before .before .before .bits-at .ensures) _ _ (o .run-operation .ensures) (c .enum-told .given .1)
 
 enum-told-2 : tie.Need-enum-told-2 Inv-loop μ-loop
 enum-told-2 c = search needs
@@ -64,7 +64,7 @@ returns-2 : tie.Need-returns-2 Inv-loop μ-loop
 returns-2 c =
     let o = c .before .before in
     let l = o .before .before .before .before .before .before .before .before in
-    λ net whole e p. going-stop _ _ _ _ _ _ _ _ _ _ (l .loop .inv net whole e p) (o .before .before .before .before .before .before .before .loop-test .taken) _ (o .before .before .before .before .before .before .bits-at .ensures) _ _ (o .run-operation .ensures) (c .«enum-told2» .given .1)
+    λ net whole e p. going-stop _ _ _ _ _ _ _ _ _ _ _ (l .loop .inv net whole e p) (o .before .before .before .before .before .before .before .loop-test .taken) _ (o .before .before .before .before .before .before .bits-at .ensures) _ _ (o .run-operation .ensures) (c .«enum-told2» .given .1)
 
 enum-known-next : tie.Need-enum-known-next Inv-loop μ-loop
 enum-known-next c = search needs
@@ -85,10 +85,10 @@ loop-again : tie.Need-loop-again Inv-loop μ-loop
 loop-again c =
     let o = c .before .before .before in
     let l = o .before .before .before .before .before .before .before .before in
-    λ net whole e p. going-next _ _ _ _ _ _ _ _ _ _ (l .loop .inv net whole e p) (o .before .before .before .before .before .before .before .loop-test .taken) _ (o .before .before .before .before .before .before .bits-at .ensures) _ _ (o .run-operation .ensures) _ (c .before .next .given .1)
+    λ net whole e p. going-next _ _ _ _ _ _ _ _ _ _ _ (l .loop .inv net whole e p) (o .before .before .before .before .before .before .before .loop-test .taken) _ (o .before .before .before .before .before .before .bits-at .ensures) _ _ (o .run-operation .ensures) _ _ (c .before .next .given .1)
 
 returns-3 : tie.Need-returns-3 Inv-loop μ-loop
-returns-3 c = λ net whole e p. going-end _ _ _ _ _ _ _ _ _ _ (c .before .loop .inv net whole e p) (c .loop-test .left)
+returns-3 c = λ net whole e p. going-end _ _ _ _ _ _ _ _ _ _ _ (c .before .loop .inv net whole e p) (c .loop-test .left)
 
 pub run-lines-spec : {M : Type 1} → statement M
 run-lines-spec =

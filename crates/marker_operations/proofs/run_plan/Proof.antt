@@ -21,7 +21,7 @@ run-lines-requires c κs =
     let at-count = c .before .before .before .before .before .before in
     let at-find-path = at-count .before .before in
     let s = at-find-path .before .before .before .before .before in
-    (s .pre .0, ((s .pre .1 .0, start-on _ (s .pre .0 .0) _ _ _ _ (s .pre .1 .1) (at-find-path .find-path .ensures) _ (at-count .count .given .1)), s .pre .1 .1 .reached))
+    (s .pre .0, ((s .pre .1 .0, start-on _ (s .pre .0 .0) _ _ _ _ (s .pre .1 .1) (at-find-path .find-path .ensures) _ _ (at-count .count .given .1)), s .pre .1 .1 .reached))
 
 enum-known-m : tie.Need-enum-known-m
 enum-known-m c = search needs
@@ -30,7 +30,7 @@ returns : tie.Need-returns
 returns c =
     let f = c .before .before .before .before .before .before .before .before .before .find-path .ensures in
     let q = c .before .before .before .before .before .before .before .count .given .1 in
-    λ net plan e h. subst (RanAs _ _ _ _) (start-runs net plan _ _ _ _ h f _ q) (c .run-lines .ensures net plan e (start-on net plan _ _ _ _ h f _ q))
+    λ net plan e h. subst (RanAs _ _ _ _) (start-runs net plan _ _ _ _ h f _ _ q) (c .run-lines .ensures net plan e (start-on net plan _ _ _ _ h f _ _ q))
 
 returns-2 : tie.Need-returns-2
 returns-2 c = λ net plan e h. subst (RanAs _ _ _ _) (sym (start-stops net plan _ _ _ _ h (c .before .before .before .find-path .ensures) _ (c .before .m .given .1))) refl

@@ -14,21 +14,18 @@ slice-aggregate-put c = search needs
 put-requires : tie.Need-put-requires
 put-requires c κs = search needs
 
-path-length-requires : tie.Need-path-length-requires
-path-length-requires c κs = search needs
-
 put-repeated-requires : tie.Need-put-repeated-requires
 put-repeated-requires c κs = search needs
 
 put-operation-requires : tie.Need-put-operation-requires
 put-operation-requires c κs =
     let zeros = c .before .before .before in
-    let first = zeros .before .before .before .before .before in
+    let first = zeros .before .before .before .before in
     let s = first .before .before .before .before in
-    let len = zeros .before .path-length in
-    let fits : first .put .result + len .result ≤ length (first .put .last .0) = omega (arith, s .pre .room, first .put .ensures .0, len .ensures, first .put .kept .0) in
-    let there = zeros-there (first .put .result) (len .result) (first .put .last .0) _ fits (zeros .put-repeated .ensures .1) in
-    (operation-room _ (s .pre) _ _ (first .put .ensures .0) (search needs), rw (len .ensures) at there)
+    let len = s .args .len in
+    let fits : first .put .result + len ≤ length (first .put .last .0) = omega (arith, s .pre .0 .room, first .put .ensures .0, s .pre .1, first .put .kept .0) in
+    let there = zeros-there (first .put .result) len (first .put .last .0) _ fits (zeros .put-repeated .ensures .1) in
+    (operation-room _ (s .pre .0) _ _ (first .put .ensures .0) (search needs), rw (s .pre .1) at there)
 
 slice-aggregate-put-2 : tie.Need-slice-aggregate-put-2
 slice-aggregate-put-2 c = search needs
@@ -44,11 +41,10 @@ returns c =
     let last = c .before .before .put2 in
     let bits = c .before .before .before .before .before .before .before in
     let zeros = bits .before .before .before .before in
-    let first = zeros .before .before .before .before .before in
-    let s = first .before .before .before .before in
-    let len = zeros .before .path-length in (
+    let first = zeros .before .before .before .before in
+    let s = first .before .before .before .before in (
       omega (arith, first .put .ensures .0, bits .put-operation .ensures .0, last .ensures .0),
-      line-put _ _ _ _ _ _ _ _ _ (s .pre) _ _ _ _ _ _ _ (search needs) (first .put .ensures .0) (first .put .ensures .1) (len .ensures) (zeros .put-repeated .ensures .1)
+      line-put _ _ _ _ _ _ _ _ _ (s .pre .0) _ _ _ _ _ _ _ (search needs) (first .put .ensures .0) (first .put .ensures .1) (s .pre .1) (zeros .put-repeated .ensures .1)
           (bits .put-operation .ensures .0) (bits .put-operation .ensures .1) (last .ensures .1),
     )
 
@@ -58,7 +54,6 @@ put-line-spec =
     (tie.spec
     slice-aggregate-put
     put-requires
-    path-length-requires
     put-repeated-requires
     put-operation-requires
     slice-aggregate-put-2

@@ -26,7 +26,7 @@ write-path-requires c κs =
     let r = n .before .before in
     let s = r .before .before in
     let w = r .walk-setting .ensures .0 in
-    ((_, path-is _ _ (s .args .problem) _ (s .pre .1 .1) _ _ _ w _ (s .pre .0 .1) _ (n .n .given .1)), (s .pre .1 .1 .size, s .pre .1 .0))
+    ((_, _, path-is _ _ (s .args .problem) _ (s .pre .1 .1) _ _ _ w _ (s .pre .0 .1) _ _ (n .n .given .1)), (s .pre .1 .1 .size, s .pre .1 .0))
 
 returns : tie.Need-returns
 returns c =
@@ -42,7 +42,7 @@ returns-2 c =
     let r = n .before .before in
     let s = r .before .before in
     let q = c .write-path .ensures in
-    (path-known _ _ (s .args .problem) _ (s .pre .1 .1) _ _ _ (r .walk-setting .ensures .0) _ _ (n .n .given .1) q, q .known)
+    (path-known _ _ (s .args .problem) _ (s .pre .1 .1) _ _ _ (r .walk-setting .ensures .0) _ _ _ (n .n .given .1) q, q .known)
 
 pub read-row-spec : {M : Type 1} → statement M
 read-row-spec =

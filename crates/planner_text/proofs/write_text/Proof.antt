@@ -76,7 +76,7 @@ put-line-requires c κs =
     let w = m .before .before in
     let test = w .before .before in
     let o = test .before .before .before .before .before .pre .0 .2 in
-    writing-room (test .before .loop .inv .2) (test .loop-test .taken) (w .walk-setting .ensures .0) _ (m .walked .given .1) o
+    writing-room (test .before .loop .inv .2) (test .loop-test .taken) (w .walk-setting .ensures .0) _ _ (m .walked .given .1) o
 
 land-of-requires : tie.Need-land-of-requires Inv-loop μ-loop
 land-of-requires c κs =
@@ -109,7 +109,7 @@ loop-again c =
     let e = w .walk-setting .ensures in (
       row .0,
       e .1,
-      writing-more (test .before .loop .inv .2) (test .loop-test .taken) (e .0) _ (m .walked .given .1) (row .0) (row .1) (choice .as-index .ensures) (h .number .ensures) (c .land-of .ensures)
+      writing-more (test .before .loop .inv .2) (test .loop-test .taken) (e .0) _ _ (m .walked .given .1) (row .0) (row .1) (choice .as-index .ensures) (h .number .ensures) (c .land-of .ensures)
           (line .put-line .ensures .0) (search (needs, c .before .before .before .plan)) (test .before .before .list-wants .ensures) (line .put-line .ensures .1),
     )
 

@@ -65,25 +65,27 @@ fn draw_bits(random: &mut Random, network: &Network, path: &[usize], percent: us
     bits
 }
 
-/// The configuration after a plan, as far as its operations fit.
-fn after(network: &Network, plan: &[Vec<bool>]) -> Configuration {
+/// The start and the configuration after each operation of a plan, as far as they fit.
+pub fn configurations(network: &Network, plan: &[Vec<bool>]) -> Vec<Configuration> {
     let mut configuration = network.start.clone();
+    let mut all = vec![configuration.clone()];
     for bits in plan {
         match walk(network, &configuration) {
             Ok(path) if path_length(network, &path) == bits.len() => {
                 csu(network, &mut configuration, &path, bits);
+                all.push(configuration.clone());
             }
             _ => break,
         }
     }
-    configuration
+    all
 }
 
 /// A plan with operations added behind it.
 pub fn lengthened(random: &mut Random, network: &Network, plan: &[Vec<bool>]) -> Vec<Vec<bool>> {
     let room = MAX_OPERATIONS - plan.len().min(MAX_OPERATIONS);
     let more = random.below(room.min(4) + 1);
-    let last = after(network, plan);
+    let last = configurations(network, plan).pop().expect("the start is one");
     [plan, &wander_from(random, network, last, more, 90)].concat()
 }
 

@@ -12,7 +12,7 @@ answer-of-requires : tie.Need-answer-of-requires
 answer-of-requires c κs = search needs
 
 returns : tie.Need-returns
-returns c = rw (c .answer-of .ensures) (found _ _ _ _ _ _ _ (c .before .before .before .pre) (c .before .walk .ensures))
+returns c = rw (c .answer-of .ensures) (found _ _ _ _ _ _ _ (c .before .before .before .pre) (c .before .walk .ensures .0))
 
 pub find-path-spec : {M : Type 1} → statement M
 find-path-spec = tie.close (tie.spec walk-requires answer-of-requires returns)
