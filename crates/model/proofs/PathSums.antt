@@ -9,11 +9,15 @@ use native.Mathlib.Nat.{le-refl, not-suc-le-zero}
 use lib.ListN.{length, getD}
 use borrow.Author.Tests.{le-leb, lt-leb}
 use Rattle.model.specs.Accepted.{GoodNode, WellFormed}
+use Rattle.model.specs.Drawn.{A}
 use Rattle.model.specs.Network.{segment, Node, multiplexer, Config, Network, noNode}
+use Rattle.model.specs.NetworkText.{readNetwork}
 use Rattle.model.specs.Path.{ScanPath, Walk, path, stop, PathSegment, onWay, enter, visit, walkFrom, nodeOf, address, pick, bitOf, pathIn, ValidConfig, pathLength}
 use Rattle.model.specs.PathSum.{sumVisit, sumFrom, sumAt, leadsTo, metBehind, metFrom, nodesMet, partFrom, SumsUp, PathSums}
-use Rattle.model.specs.Text.{Trit, bind}
+use Rattle.model.specs.Result.{ok}
+use Rattle.model.specs.Text.{Trit, bind, bytes}
 use Rattle.model.proofs.Accepted.{accepted}
+use Rattle.model.proofs.EarlierTexts.{earlier-texts, earlier-met}
 use Rattle.model.proofs.Lists.{some-same}
 use Rattle.model.proofs.Walking.{Falls, WalkFalls, walk-falls, pick-below}
 
@@ -186,3 +190,10 @@ module _ (net : Network) (wf : WellFormed net) (c : Config) where
 
 pub path-sums : PathSums
 path-sums t net c is v = sums-up net (accepted t net is .wf) c v
+
+-- what it asks for is met
+pub sums-met : (net : Network) × (readNetwork (bytes A) ≡ ok net) × ValidConfig net (net .start)
+sums-met =
+    let net = earlier-met .0 in
+    let read = earlier-texts (bytes A) net (earlier-met .1) .network ∙ earlier-met .1 in
+    (net, read, accepted (bytes A) net read .starts)

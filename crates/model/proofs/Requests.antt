@@ -4,7 +4,8 @@ use mathlib.Core.Path.{_≡_}
 use Rattle.model.specs.Drawn.{A, AllPrinted, resetRows, longRows, AllSummed, sumRows}
 use Rattle.model.specs.LongRegisters.{LenBounded, earlierLen, EarlierTexts, FirstTexts}
 use Rattle.model.specs.Network.{Network}
-use Rattle.model.specs.NetworkText.{readUpTo}
+use Rattle.model.specs.NetworkText.{readUpTo, readNetwork}
+use Rattle.model.specs.Path.{ValidConfig}
 use Rattle.model.specs.PathSum.{PathSums}
 use Rattle.model.specs.Resets.{ResetsRead, ResetStarts, readWithoutReset, OldForm, ReadAsBefore, AcceptedAsBefore, ResetRefused}
 use Rattle.model.specs.Result.{ok}
@@ -12,7 +13,7 @@ use Rattle.model.specs.Text.{bytes}
 use Rattle.model.proofs.Drawn.{rows-hold, sums-hold}
 use Rattle.model.proofs.EarlierTexts.{len-bounded, earlier-texts, first-texts, earlier-met, first-met}
 use Rattle.model.proofs.OldForm.{read-as-before, accepted-as-before, old-form-met}
-use Rattle.model.proofs.PathSums.{path-sums}
+use Rattle.model.proofs.PathSums.{path-sums, sums-met}
 use Rattle.model.proofs.ResetForms.{resets-read, reset-refused}
 use Rattle.model.proofs.ResetStarts.{reset-starts}
 
@@ -65,6 +66,10 @@ long-rows = rows-hold .2
 
 pub sums : PathSums
 sums = path-sums
+
+-- the hypotheses of `sums` can be met
+pub sums-of-A : (net : Network) × (readNetwork (bytes A) ≡ ok net) × ValidConfig net (net .start)
+sums-of-A = sums-met
 
 pub sum-rows : AllSummed sumRows
 sum-rows = sums-hold
