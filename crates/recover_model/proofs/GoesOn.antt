@@ -55,13 +55,13 @@ number_known k e =
 -- ---- a follower that can go on
 
 pub record GoesOn (f : Follower) : Type 0 where
-  pub is_known_law : known (state_number f.state) ≡ true
+  pub is_known : known (state_number f.state) ≡ true
   pub few : f.entries ≤ max_operations
   pub short : f.plan_bytes ≤ max_plan_bytes
   pub counted : cond (under_way (state_number f.state)) 1 0 ≤ f.plan_bytes
 
 pub start_goes_on : GoesOn at_start
-start_goes_on = record { is_known_law = refl; few = omega arith; short = omega arith; counted = omega arith }
+start_goes_on = record { is_known = refl; few = omega arith; short = omega arith; counted = omega arith }
 
 known_clocks : (cs : List Clock) (f g : Follower) → known (state_number f.state) ≡ true → follow_clocks f cs ≡ some g → known (state_number g.state) ≡ true
 unfolding follow_clocks
@@ -88,7 +88,7 @@ pub goes_on_clocks : (cs : List Clock) (f g : Follower) → GoesOn f → follow_
 goes_on_clocks cs f g k e =
     let l = few_clocks cs f g k.few k.short e in
     record {
-      is_known_law = known_clocks cs f g k.is_known e;
+      is_known = known_clocks cs f g k.is_known e;
       few = l.0;
       short = l.1;
       counted = omega (arith, k.counted, clocks_counted cs f g e, at_most_1 (under_way (state_number f.state)), at_most_1 (under_way (state_number g.state)));
@@ -163,5 +163,5 @@ resumes p x =
     record {
       more_lines = t.more_lines;
       same_state = same;
-      goes_on = record { is_known_law = rw same k; few = t.few; short = t.short; counted = rw same t.counted };
+      goes_on = record { is_known = rw same k; few = t.few; short = t.short; counted = rw same t.counted };
     }
