@@ -27,7 +27,7 @@ const SELECT_IR: u8 = 9;
 
 // What is kept between two lines: the lines so far, the controller's state by number, the entries to Capture-DR, and the plan's
 // bytes, 5 for each entry and 1 for each bit.
-#[derive(Drop)]
+#[derive(Clone, Copy)]
 pub struct Progress {
     pub lines: usize,
     pub state: u8,

@@ -13,7 +13,7 @@ use network_path::layout::{NODE_NUMBERS, Nodes, Words};
 use network_words::{WORD_BITS, Word, only_bit, words_of};
 
 // Counts, the node that feeds scan-out, and the targets: a target's word is 1 for `write` and 0 for `read`.
-#[derive(Drop)]
+#[derive(Clone, Copy)]
 pub struct Summary {
     pub count: usize,
     pub total: usize,

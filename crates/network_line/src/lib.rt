@@ -11,7 +11,7 @@ ghost use Rattle.network_line.specs.Line.{kind_for, FieldsPlaced, AreDecimals, I
 use text::{LineWord, Number};
 
 // A node is a segment or a multiplexer, and each kind has its own fields. An input that a multiplexer lacks is 0.
-#[derive(Drop)]
+#[derive(Clone, Copy)]
 pub enum NodeData {
     Segment {
         from: usize,

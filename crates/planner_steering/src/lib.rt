@@ -15,7 +15,7 @@ use network_words::{Word, bit_at};
 
 // What the search asks of a network's record besides its nodes and words of steering bits: its counts and targets, and the list of
 // its steering bits, by segment and bit, with their count, the width of a setting.
-#[derive(Drop)]
+#[derive(Clone, Copy)]
 pub struct Problem {
     pub summary: Summary,
     pub segments: [u16; MAX_STEERING_BITS],
