@@ -1,4 +1,6 @@
 // The calls under C names, for programs in other languages. A slice is passed as a pointer and a count, an array as a pointer.
+#![tactic(auto)]
+
 pub mod carrying;
 pub mod recovery;
 

@@ -1,4 +1,6 @@
 // Carrying a setting into the next exercise: the `hold` lines of the configuration that a passed plan left.
+#![tactic(auto)]
+
 ghost use Rattle.carrier.specs.Call.{CarryReturned};
 
 use hold_lines::{Held, write_holds};

@@ -1,5 +1,7 @@
 // carry NETWORK PLAN: after a pass one `hold` line for each segment, with the bits that the plan left, or `fail` with number and
 // place.
+#![tactic(auto)]
+
 use carry_answer::{ROOM, print_carry};
 use model::limits::{MAX_NETWORK_BYTES, MAX_PLAN_BYTES};
 use program_io::finish::answer;

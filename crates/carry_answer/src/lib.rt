@@ -1,4 +1,6 @@
 // The carry program's lines.
+#![tactic(auto)]
+
 ghost use Rattle.carry_model.specs.Carry.{carry_program};
 ghost use Rattle.io.specs.Counts.{IsPrefixLen};
 ghost use Rattle.program_text.specs.Printing.{PrintedTo};

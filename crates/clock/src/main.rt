@@ -1,4 +1,6 @@
 // clock [PLAN]: `clk` with TMS and TDI for each operation, or `fail` with number and place.
+#![tactic(auto)]
+
 use clock_answer::{ROOM, print_clocks};
 use model::limits::MAX_PLAN_BYTES;
 use program_io::finish::answer;

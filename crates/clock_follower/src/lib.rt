@@ -1,5 +1,7 @@
 // The controller followed over the clocks of a line: the counts that may refuse it, and the bytes that it adds to the plan's
 // text. Clocks that leave the state as it is are taken at once.
+#![tactic(auto)]
+
 ghost use Rattle.std.specs.Prelude.{◌≡◌, true, false, cond, map, ◌+◌, ◌≤◌, ◌<◌, length, eqb};
 ghost use Rattle.model.specs.Limits.{max_operations, max_plan_bytes};
 ghost use Rattle.model.specs.Tap.{state_at};

@@ -1,4 +1,6 @@
 // One line of a text of clocks, without its byte 10: its form, and its TMS and TDI bits as parts of it.
+#![tactic(auto)]
+
 ghost use Rattle.std.specs.Prelude.{◌≡◌, ◌+◌, ◌≤◌, length, take, drop};
 ghost use Rattle.recover_model.specs.ClockText.{clk_line};
 ghost use Rattle.clock_line.specs.Line.{clock_count, FitsClocks, IsFound};

@@ -1,4 +1,6 @@
 // The test access port (TAP): the controller's table, the clock machine and the clock writer.
+#![tactic(auto)]
+
 ghost use Rattle.std.specs.Prelude.{◌≡◌, ◌+◌, ◌≤◌, ◌<◌, length};
 ghost use Rattle.model.specs.Calls.{clocks_of, row_of, written};
 ghost use Rattle.plan_text.specs.Form.{HasForm};

@@ -1,5 +1,7 @@
 // controller_table: the controller's table as the code has it, a line for each of the sixteen states:
 // `state`, its number, the next state's number for TMS 0 and the one for TMS 1.
+#![tactic(auto)]
+
 ghost use Rattle.std.specs.Prelude.{◌+◌, ◌≤◌, ◌<◌, length};
 ghost use Rattle.io.specs.Counts.{IsPrefixLen};
 

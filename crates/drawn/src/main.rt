@@ -1,5 +1,7 @@
 // drawn: what the programs print for the networks of document 01, "Drawn networks", each behind a title line, with the greatest LEN of
 // document 02, Change 4. Each part tells whether it is written whole; nothing is written behind one that is not.
+#![tactic(auto)]
+
 use program_io::finish::finish;
 use program_io::line::{add, end};
 use program_io::output::put_part;

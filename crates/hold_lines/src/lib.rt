@@ -1,4 +1,6 @@
 // The `hold` lines of a configuration: their length, then the lines in number order, one for each segment.
+#![tactic(auto)]
+
 ghost use Rattle.std.specs.Prelude.{◌≡◌, map, reverse, ◌+◌, ◌<◌, ◌≤◌, length};
 ghost use Rattle.model.specs.Limits.{max_nodes};
 ghost use Rattle.model.specs.Network.{is_segment};

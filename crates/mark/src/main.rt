@@ -1,5 +1,7 @@
 // mark NETWORK PLAN: `pass` with the counts of operations and clocks, then `got` with target, operation and place for
 // each read target, or `fail` with number and place.
+#![tactic(auto)]
+
 use mark_answer::{ROOM, print_mark};
 use model::limits::{MAX_NETWORK_BYTES, MAX_PLAN_BYTES};
 use program_io::finish::answer;

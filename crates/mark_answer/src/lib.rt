@@ -1,4 +1,6 @@
 // The mark program's lines.
+#![tactic(auto)]
+
 ghost use Rattle.std.specs.Prelude.{[], ◌∷◌, ◌+◌, ◌≤◌, length};
 ghost use Rattle.model.specs.Printed.{number, line, got_lines, mark_program};
 ghost use Rattle.program_lines.specs.Puts.{Puts};

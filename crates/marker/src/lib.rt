@@ -1,4 +1,6 @@
 // The marker: judges a plan text against a network text.
+#![tactic(auto)]
+
 ghost use Rattle.std.specs.Prelude.{◌≡◌};
 ghost use Rattle.marker_targets.specs.Answers.{mark_of, refused_mark, RowsFor};
 ghost use Rattle.marker.specs.Left.{Leaves, LeftAfter, as_read};

@@ -1,4 +1,6 @@
 // The operations of a plan in turn: 15 where the count of bits is not the path length, 16 where the configuration after it is not valid.
+#![tactic(auto)]
+
 ghost use Rattle.std.specs.Prelude.{[], ◌≤◌, ◌<◌, take};
 ghost use Rattle.network_path.specs.Answers.{HoldsPath};
 ghost use Rattle.network_path.specs.Layout.{scan_path};

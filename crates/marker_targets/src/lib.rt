@@ -1,4 +1,6 @@
 // The targets after the operations: 17 for the lowest that was on no path or does not hold its bits, or the pass with its `got` rows.
+#![tactic(auto)]
+
 ghost use Rattle.std.specs.Prelude.{◌≡◌, ◌≤◌, ◌<◌};
 ghost use Rattle.model.specs.Mark.{holds_bits};
 ghost use Rattle.model.specs.Network.{tabulate};

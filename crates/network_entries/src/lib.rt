@@ -1,4 +1,6 @@
 // A `hold`, `write` or `read` line added to a network, with its refusals in order.
+#![tactic(auto)]
+
 ghost use Rattle.std.specs.Prelude.{◌≡◌, ◌≤◌, length};
 ghost use Rattle.model.specs.Limits.{max_nodes};
 ghost use Rattle.model.specs.Network.{len_of};

@@ -1,4 +1,6 @@
 // One parsed line of a network text.
+#![tactic(auto)]
+
 pub mod node;
 
 ghost use Rattle.std.specs.Prelude.{cond, [], ◌≡◌, ◌≤◌, ◌<◌, length};

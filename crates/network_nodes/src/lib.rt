@@ -1,4 +1,6 @@
 // A node line or the `out` line added to a network, with its refusals in order.
+#![tactic(auto)]
+
 pub mod bad;
 
 ghost use Rattle.std.specs.Prelude.{◌≡◌};

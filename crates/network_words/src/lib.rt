@@ -1,4 +1,6 @@
 // Words of a segment's bits: address fields by shift and mask, shifting in by one place, the words of a BITS or RESET field.
+#![tactic(auto)]
+
 ghost use Rattle.std.specs.Prelude.{◌≡◌, map, suc, ◌+◌, ◌-◌, ◌*◌, ◌^◌, ◌<◌, ◌≤◌, length};
 ghost use Rattle.model.specs.Path.{bit_value};
 ghost use Rattle.network_words.specs.Words.{word_width, word_bit, byte_bit, shift_in, word_of_bits, word_from, byte_known};

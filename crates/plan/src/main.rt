@@ -1,4 +1,6 @@
 // plan [NETWORK]: the plan text, nothing for a plan of no operations, or `fail` with number and place.
+#![tactic(auto)]
+
 use model::limits::MAX_NETWORK_BYTES;
 use plan_answer::{ROOM, print_plan};
 use program_io::finish::answer;

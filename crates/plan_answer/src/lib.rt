@@ -1,4 +1,6 @@
 // The plan program's lines.
+#![tactic(auto)]
+
 ghost use Rattle.io.specs.Counts.{IsPrefixLen};
 ghost use Rattle.model.specs.Printed.{plan_program};
 ghost use Rattle.program_text.specs.Printing.{PrintedTo};

@@ -1,4 +1,6 @@
 // Plan texts: their form, the line finder, and writing into a buffer.
+#![tactic(auto)]
+
 ghost use Rattle.std.specs.Prelude.{◌≡◌, map, ◌+◌, ◌≤◌, length, drop, replicate};
 ghost use Rattle.model.specs.Tap.{bit_byte};
 ghost use Rattle.plan_text.specs.Form.{form_of, plan_form};

@@ -1,4 +1,6 @@
 // The planner: a network text to the plan with the fewest operations.
+#![tactic(auto)]
+
 ghost use Rattle.network_reader.specs.Reads.{uncounted};
 ghost use Rattle.planner.specs.Call.{Searchable, PlansIn, MadePlan};
 

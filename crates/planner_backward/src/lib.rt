@@ -1,4 +1,6 @@
 // Back along the layers: of each, the states that lead to a goal in the last one are kept.
+#![tactic(auto)]
+
 ghost use Rattle.std.specs.Prelude.{◌≡◌, ℕ, ◌+◌, ◌*◌, ◌≤◌, ◌<◌, length, get_or};
 ghost use Rattle.model.specs.Limits.{max_settings, search_size};
 ghost use Rattle.planner_theory.specs.Moves.{all_of, sys_of};

@@ -1,5 +1,7 @@
 // The line of one operation in the plan text, from the number of a choice: each steering bit on the path takes the next binary
 // digit of the choice, the highest first, and every other bit what the planner shifts there, by a list of words for all lines.
+#![tactic(auto)]
+
 ghost use Rattle.std.specs.Prelude.{◌≡◌, cond, ◌+◌, ◌/◌, ◌%◌, ◌<◌, ◌≤◌, eqb, length, take};
 ghost use Rattle.model.specs.Limits.{max_nodes};
 ghost use Rattle.model.specs.Path.{path_length};

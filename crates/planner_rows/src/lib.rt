@@ -1,6 +1,8 @@
 // A table with a row of eleven numbers for each setting: 1 where the row is written, the count of choices, the targets on the path,
 // the setting with 0 in the steering bits on the path, the path's length, and the indices of the steering bits on the path, the
 // last place first.
+#![tactic(auto)]
+
 ghost use Rattle.std.specs.Prelude.{◌≡◌, ℕ, ◌+◌, ◌^◌, ◌≤◌, ◌<◌, length, get_or};
 ghost use Rattle.model.specs.Limits.{max_settings};
 ghost use Rattle.planner_settings.specs.Route.{Plannable};

@@ -1,5 +1,7 @@
 // The walk in a setting of the steering bits, and what its path has: the steering bits in the order of their places, the targets,
 // and the digits of the steering bits beside it.
+#![tactic(auto)]
+
 ghost use Rattle.std.specs.Prelude.{◌≡◌, cond, List, ℕ, ◌/◌, ◌%◌, ◌^◌, ◌≤◌, ◌<◌, eqb, length, get_or};
 ghost use Rattle.model.specs.Limits.{max_nodes, max_settings};
 ghost use Rattle.network_path.specs.Answers.{HoldsPath};

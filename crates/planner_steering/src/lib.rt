@@ -1,4 +1,6 @@
 // The steering bits of a network in order, and their settings by number: words from a number, and a number from words.
+#![tactic(auto)]
+
 ghost use Rattle.std.specs.Prelude.{◌≡◌, ◌+◌, ◌<◌, ◌≤◌, length};
 ghost use Rattle.model.specs.Limits.{max_nodes};
 ghost use Rattle.model.specs.Network.{steering_bits};

@@ -6,5 +6,7 @@
 //     entries   0 .. 728   729 .. 1457   ..    10935 .. 11663
 //
 // Entry x of a slot has the sets of targets with which the layer reaches setting x, as the bits of one number.
+#![tactic(auto)]
+
 pub mod sets;
 pub mod slots;

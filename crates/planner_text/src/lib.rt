@@ -1,4 +1,6 @@
 // The text of a plan from the choices of the search: its length, then its lines, each along the path of its setting.
+#![tactic(auto)]
+
 ghost use Rattle.std.specs.Prelude.{◌≡◌, ◌<◌};
 ghost use Rattle.model.specs.Limits.{max_settings};
 ghost use Rattle.planner_rows.specs.Rows.{row_number, RowsRight, Landing};

@@ -1,5 +1,7 @@
 // Input, output and arguments of the programs. Answers go to standard output, messages to standard error, and the status
 // to descriptor 3 where `--status` asks for it.
+#![tactic(auto)]
+
 mod arguments;
 mod calls;
 mod errors;

@@ -1,4 +1,6 @@
 // Numbers in base ten, fields and lines, written into a buffer from a place on, and the exit status for what is written.
+#![tactic(auto)]
+
 ghost use Rattle.std.specs.Prelude.{◌≡◌, [], ◌∷◌, ◌++◌, map, ◌+◌, ◌*◌, ◌≤◌, ◌<◌, length, drop};
 ghost use Rattle.model.specs.Text.{tab};
 ghost use Rattle.model.specs.Printed.{number, fields_of, line, exit_status};

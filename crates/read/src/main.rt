@@ -1,5 +1,7 @@
 // read [NETWORK]: `ok` with the counts of nodes, segment bits, distinct steering bits and the start path's bits, or
 // `fail` with number and place.
+#![tactic(auto)]
+
 use model::limits::MAX_NETWORK_BYTES;
 use program_io::finish::answer;
 use program_io::input::read_text;

@@ -1,5 +1,7 @@
 // recover [CLOCKS]: the plan that `clk` lines play, or `fail` with number and line. The text may be of any length: it is read in
 // parts, and no more is kept than the plan, where the controller stands, and the line that is not ended yet.
+#![tactic(auto)]
+
 ghost use Rattle.io.specs.Counts.{IsPrefixLen};
 
 use model::limits::MAX_PLAN_BYTES;

@@ -1,4 +1,6 @@
 // The recover program's answer, where the plan stands already.
+#![tactic(auto)]
+
 ghost use Rattle.std.specs.Prelude.{◌≤◌, length};
 ghost use Rattle.model.specs.Limits.{max_plan_bytes};
 ghost use Rattle.io.specs.Counts.{IsPrefixLen};

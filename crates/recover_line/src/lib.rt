@@ -1,4 +1,6 @@
 // Clocks back into a plan: the call for a line and the one for the end of the text, which a caller makes in turn.
+#![tactic(auto)]
+
 ghost use Rattle.std.specs.Prelude.{◌≡◌, cond, ◌+◌, ◌≤◌};
 ghost use Rattle.recover_model.specs.RecoverCalls.{at_first, under_way, can_go_on, bytes_written, step_line, recover_line, recover_end};
 ghost use Rattle.clock_follower.specs.Counts.{progress_for};

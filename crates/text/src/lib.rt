@@ -1,4 +1,6 @@
 // The lowest layer of the texts: where a line ends, its fields, decimal fields, words and bits.
+#![tactic(auto)]
+
 ghost use Rattle.std.specs.Prelude.{◌≡◌, [], ◌≤◌, ◌<◌, length, get_or};
 ghost use Rattle.model.specs.Text.{fields, digits_from, same, word_of};
 ghost use Rattle.text.specs.Places.{IsEnd, IsSplit, FieldStarts};

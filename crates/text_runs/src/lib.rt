@@ -1,4 +1,6 @@
 // Runs of bytes, 32 at a time: how far a run of bits or zeros goes, and where a long line ends.
+#![tactic(auto)]
+
 pub mod zeros;
 
 ghost use Rattle.std.specs.Prelude.{◌≡◌, ◌+◌, ◌≤◌, length, drop, leb};

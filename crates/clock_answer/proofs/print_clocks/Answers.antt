@@ -1,0 +1,21 @@
+-- `clock_answer::print_clocks` meets its contract: the lines of a plan text of good form, or the refusal.
+-- Assumes nothing.
+use mathlib.Core.Path.{refl}
+use native.Mathlib.Omega.{arith}
+use borrow.Author.Rules.{rules}
+use Rattle.model.proofs.PlanTexts.{text_of}
+use Rattle.plan_text.proofs.Forms.{form_good, form_refused}
+use Rattle.clock_answer.proofs.ClocksShown.{clocks_refused}
+use Rattle.program_text.proofs.Front.{at_front, printed_to}
+use Rattle.clock_answer.proofs.print_clocks.Goals as goal
+
+pub put_operations-requires : goal.put_operations-requires
+put_operations-requires c = let g = form_good _ _ _ c.check_form-form.ensures c.in-Good.is in
+    ((g.plan, g.reads), omega (arith, (text_of _ _ g.reads).short, c.put_operations-arg-1.given.0.1))
+
+pub returns-in-Good : goal.returns-in-Good
+returns-in-Good c = printed_to _ _ (at_front _ _ refl c.put_operations.ensures)
+
+pub returns-in-Refused : goal.returns-in-Refused
+returns-in-Refused c = let bad = form_refused _ _ _ c.check_form-form.ensures c.in-Refused.is in
+    printed_to _ _ (at_front _ _ (clocks_refused _ _ _ bad) c.put_refusal.ensures)

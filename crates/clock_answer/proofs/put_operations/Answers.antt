@@ -1,0 +1,49 @@
+-- `clock_answer::put_operations` meets its contract. The loop's invariant: the lines of the operations before `at` are written.
+-- Assumes nothing.
+use mathlib.Core.Path.{refl}
+use Prim.Native.Nat.{◌+◌, ◌-◌, ◌≤◌}
+use native.Mathlib.Omega.{arith}
+use lib.ListN.{length}
+use Rattle.clock_answer.proofs.ClocksShown.{Clocked, clocked_none, clocked_all, line_within, line_fits, clocked_line}
+use Rattle.clock_answer.proofs.put_operations.Goals as goal
+
+pub loop-at-init : goal.loop-at-init
+loop-at-init c = clocked_none _ _ c.requires.has_form.0 c.requires.has_form.1
+
+pub bits_at-bits-requires : goal.bits_at-bits-requires
+bits_at-bits-requires c = omega (arith, line_within _ _ _ _ _ c.loop-at.invariant c.loop-at-test.true _ refl)
+
+pub put_operation-next-requires : goal.put_operation-next-requires
+put_operation-next-requires c = let l = c in
+    omega (arith, line_fits _ _ _ _ _ l.loop-at.invariant c.loop-at-test.true _ c.bits_at-bits.ensures l.requires.plan_in_bounds)
+
+pub overflow_add-at : goal.overflow_add-at
+overflow_add-at c =
+    let within : ) → c.loop-at.at + (5 + length c.bits_at-bits.result.now) ≤ length c.args.plan.now =
+        line_within _ _ _ _ _ c.loop-at.invariant c.loop-at-test.true _ c.bits_at-bits.ensures in
+    omega (arith, within)
+
+pub overflow_add-at-in-loop-at : goal.overflow_add-at-in-loop-at
+overflow_add-at-in-loop-at c =
+    let within : ) → c.loop-at.at + (5 + length c.bits_at-bits.result.now) ≤ length c.args.plan.now =
+        line_within _ _ _ _ _ c.loop-at.invariant c.loop-at-test.true _ c.bits_at-bits.ensures in
+    omega (arith, within)
+
+pub loop-at-smaller : goal.loop-at-smaller
+loop-at-smaller c =
+    let within : ) → c.loop-at.at + (5 + length c.bits_at-bits.result.now) ≤ length c.args.plan.now =
+        line_within _ _ _ _ _ c.loop-at.invariant c.loop-at-test.true _ c.bits_at-bits.ensures in
+    omega (arith, within)
+
+pub loop-at-preserved : goal.loop-at-preserved
+loop-at-preserved c = let found = c in
+    let l = found in
+    let wrote = c.put_operation-next in
+    clocked_line _ _ _ _ _ l.loop-at.invariant found.loop-at-test.true _ found.bits_at-bits.ensures l.requires.plan_in_bounds
+    _ _ _ wrote.ensures wrote.auto.0 refl
+
+pub shape_of-out : goal.shape_of-out
+shape_of-out c = c.loop-at.invariant.kept
+
+pub returns : goal.returns
+returns c = clocked_all _ _ _ _ _ c.loop-at.invariant c.loop-at-test.false

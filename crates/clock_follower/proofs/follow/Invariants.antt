@@ -1,0 +1,21 @@
+-- `clock_follower::follow` meets its contract. The loop's invariant: the counts are within the limits, and those of the clocks from i on
+-- come to the same as those of all clocks.
+-- Assumes nothing.
+use mathlib.Core.Path.{◌≡◌, refl, sym, ap, ◌∙◌}
+use mathlib.Core.List.{map}
+use Prim.Native.Nat.{◌-◌, ◌≤◌, ◌<◌}
+use native.Mathlib.Omega.{arith}
+use lib.ListN.{length, drop}
+use borrow.Author.Rules.{rules}
+use Rattle.clock_writer.specs.Machine.{is_one}
+use Rattle.clock_follower.specs.Counts.{progress_for, followed_for, counts_by}
+use Rattle.clock_follower.proofs.Counts.{IsStretch, counts_stop, counts_on, counts_end}
+use Rattle.clock_follower.proofs.Stretches.{stretch_small, stretch_of}
+use Rattle.clock_follower.proofs.follow.Given as goal
+
+abbrev pub invariant-loop-i : goal.invariant-loop-i
+invariant-loop-i l = (l.i ≤ length l.tms) × (l.now.state < 16) × (l.now.entries ≤ 16) × (l.now.bytes ≤ 64080)
+    × (counts_by (progress_for l.now) (map is_one (drop l.i l.tms)) ≡ counts_by (progress_for l.initial.now) (map is_one l.tms))
+
+abbrev pub decreases-loop-i : goal.decreases-loop-i
+decreases-loop-i l = length l.tms - l.i

@@ -1,0 +1,19 @@
+-- `clock_line::find_line` meets its contract.
+-- Assumes nothing.
+use native.Mathlib.Omega.{arith}
+use borrow.Author.Rules.{rules}
+use Rattle.clock_line.proofs.Ends.{clocks_end}
+use Rattle.clock_line.proofs.Lines.{counted_clocks}
+use Rattle.clock_line.proofs.find_line.Goals as goal
+
+pub returns-then-text-near-eq10 : goal.returns-then-text-near-eq10
+returns-then-text-near-eq10 c = let n = c in
+    let i = n in
+    let a = i.args in
+    record {
+      ends = clocks_end a.text.now a.at _ _ (omega arith) (omega (arith, i.if-guess-text.true)) c.if-text-near-eq10.true (counted_clocks _ _ n.count_clocks-n.ensures c.if-n-ne0.true);
+      counts = n.count_clocks-n.ensures;
+    }
+
+pub returns : goal.returns
+returns c = record { ends = c.far_end_of-end.ensures; counts = c.count_clocks.ensures }

@@ -1,0 +1,70 @@
+-- `clock_writer::write_lines` meets its contract. The loop's invariant: the clocks of the lines before `at` are written.
+-- Assumes nothing.
+use mathlib.Core.Path.{◌≡◌, refl}
+use Prim.Native.Nat.{◌+◌, ◌-◌, ◌≤◌}
+use native.Mathlib.Omega.{arith}
+use lib.ListN.{length}
+use Rattle.clock_writer.proofs.Lines.{WrittenTo, written_none, written_within, written_kept, written_all, line_within, written_line}
+use Rattle.clock_writer.proofs.write_lines.Goals as goal
+
+pub loop-at-init : goal.loop-at-init
+loop-at-init c = let p = c.requires.has_form in written_none _ _ _ p.0 p.1
+
+pub bits_at-bits-requires : goal.bits_at-bits-requires
+bits_at-bits-requires c = omega (arith, line_within _ _ _ _ _ _ c.loop-at.invariant c.loop-at-test.true _ refl)
+
+pub write_tms-requires : goal.write_tms-requires
+write_tms-requires c =
+    let kept : ) → (length c.loop-at.tms ≡ length c.args.tms.now) × (length c.loop-at.tdi ≡ length c.args.tdi.now) =
+        written_kept _ _ _ _ _ _ c.loop-at.invariant c.requires.plan_in_bounds.0 c.requires.plan_in_bounds.1 in
+    let fits : ) → c.loop-at.at + (5 + length c.bits_at-bits.result.now) ≤ length c.args.plan.now =
+        line_within _ _ _ _ _ _ c.loop-at.invariant c.loop-at-test.true _ c.bits_at-bits.ensures in
+    omega (arith, kept.0, fits)
+
+pub write_tdi-at-requires : goal.write_tdi-at-requires
+write_tdi-at-requires c =
+    let kept : ) → (length c.loop-at.tms ≡ length c.args.tms.now) × (length c.loop-at.tdi ≡ length c.args.tdi.now) =
+        written_kept _ _ _ _ _ _ c.loop-at.invariant c.requires.plan_in_bounds.0 c.requires.plan_in_bounds.1 in
+    let fits : ) → c.loop-at.at + (5 + length c.bits_at-bits.result.now) ≤ length c.args.plan.now =
+        line_within _ _ _ _ _ _ c.loop-at.invariant c.loop-at-test.true _ c.bits_at-bits.ensures in
+    omega (arith, kept.1, fits)
+
+pub loop-at-smaller : goal.loop-at-smaller
+loop-at-smaller c =
+    let line-done : ) → let l = c in
+    let a = l.args in
+    WrittenTo a.plan.now a.tms.now a.tdi.now c.write_tms.new.0 c.write_tdi-at.new.0 c.write_tdi-at.result =
+        let w = c in
+    let l = w in
+    let p = l.requires.plan_in_bounds in
+    written_line _ _ _ _ _ _ l.loop-at.invariant w.loop-at-test.true _ w.bits_at-bits.ensures p.0 p.1 _ _ _
+    w.write_tms.ensures.tms_after c.write_tdi-at.ensures.tdi_after c.write_tdi-at.ensures.value in
+    let w = written_within _ _ _ _ _ _ line-done in
+    omega (arith, c.write_tdi-at.ensures.value)
+
+pub loop-at-preserved : goal.loop-at-preserved
+loop-at-preserved c =
+    let line-done : ) → let l = c in
+    let a = l.args in
+    WrittenTo a.plan.now a.tms.now a.tdi.now c.write_tms.new.0 c.write_tdi-at.new.0 c.write_tdi-at.result =
+        let w = c in
+    let l = w in
+    let p = l.requires.plan_in_bounds in
+    written_line _ _ _ _ _ _ l.loop-at.invariant w.loop-at-test.true _ w.bits_at-bits.ensures p.0 p.1 _ _ _
+    w.write_tms.ensures.tms_after c.write_tdi-at.ensures.tdi_after c.write_tdi-at.ensures.value in
+    line-done
+
+pub shape_of-tms : goal.shape_of-tms
+shape_of-tms c =
+    let kept : ) → (length c.loop-at.tms ≡ length c.args.tms.now) × (length c.loop-at.tdi ≡ length c.args.tdi.now) =
+        written_kept _ _ _ _ _ _ c.loop-at.invariant c.requires.plan_in_bounds.0 c.requires.plan_in_bounds.1 in
+    kept.0
+
+pub shape_of-tdi : goal.shape_of-tdi
+shape_of-tdi c =
+    let kept : ) → (length c.loop-at.tms ≡ length c.args.tms.now) × (length c.loop-at.tdi ≡ length c.args.tdi.now) =
+        written_kept _ _ _ _ _ _ c.loop-at.invariant c.requires.plan_in_bounds.0 c.requires.plan_in_bounds.1 in
+    kept.1
+
+pub returns : goal.returns
+returns c = written_all _ _ _ _ _ _ c.loop-at.invariant c.loop-at-test.false

@@ -1,0 +1,19 @@
+-- `hold_lines::put_bits` meets its contract. The loop's invariant: the bytes of the bits from b on are written.
+-- Assumes nothing.
+use mathlib.Core.Path.{◌≡◌, refl, sym, ap, ◌∙◌}
+use mathlib.Core.List.{List}
+use Prim.Native.Nat.{ℕ, ◌+◌, ◌-◌, ◌≤◌}
+use native.Mathlib.Omega.{arith}
+use lib.ListN.{length, length-set}
+use borrow.Author.Rules.{rules}
+use Rattle.network_words.specs.Words.{trit_at}
+use Rattle.plan_text.specs.Writing.{write_at}
+use Rattle.plan_text.proofs.Writing.{write_none}
+use Rattle.hold_lines.proofs.Bits.{down_to, down_none, down_more, down_done}
+use Rattle.hold_lines.proofs.put_bits.Given as goal
+
+abbrev pub invariant-loop-b : goal.invariant-loop-b
+invariant-loop-b l = (l.b ≤ l.len) × (l.next ≡ l.at + (l.len - l.b)) × (length l.out ≡ length l.initial.out) × (l.out ≡ write_at l.at (down_to l.len (trit_at l.bits l.known) l.b) l.initial.out)
+
+abbrev pub decreases-loop-b : goal.decreases-loop-b
+decreases-loop-b l = l.b

@@ -1,0 +1,14 @@
+-- `hold_lines::text_length` meets its contract. The loop's invariant: the sum is the bytes of the lines of nodes 1 to s.
+-- Assumes nothing.
+use Prim.Native.Nat.{◌+◌, ◌*◌, ◌-◌, ◌≤◌}
+use native.Mathlib.Omega.{arith}
+use borrow.Author.Rules.{rules}
+use Rattle.network_words.specs.Words.{word_width}
+use Rattle.hold_lines.proofs.Text.{UpToBytes, bytes_none, bytes_more, bytes_all, words_to}
+use Rattle.hold_lines.proofs.text_length.Given as goal
+
+abbrev pub invariant-loop-s : goal.invariant-loop-s
+invariant-loop-s l = (l.s ≤ l.count) × (l.sum ≤ (27 + word_width) * l.s) × UpToBytes l.nodes l.s l.sum
+
+abbrev pub decreases-loop-s : goal.decreases-loop-s
+decreases-loop-s l = l.count - l.s

@@ -1,0 +1,7 @@
+-- `marker_targets::refused` meets its contract.
+-- Assumes nothing.
+use borrow.Author.Rules.{rules}
+use Rattle.marker_targets.proofs.refused.Goals as goal
+
+pub returns : goal.returns
+returns c = rw c.no_gots.ensures

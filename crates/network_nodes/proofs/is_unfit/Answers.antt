@@ -1,0 +1,10 @@
+-- `network_nodes::is_unfit` meets its contract.
+-- Assumes nothing.
+use borrow.Author.Tests.{eq-eqb, ne_eqb}
+use Rattle.network_nodes.proofs.is_unfit.Goals as goal
+
+pub returns-then-reset-eq0 : goal.returns-then-reset-eq0
+returns-then-reset-eq0 c = rw (eq-eqb _ 0 c.if-reset-eq0.true)
+
+pub returns : goal.returns
+returns c = rw (ne_eqb _ 0 c.if-reset-eq0.false)

@@ -1,0 +1,15 @@
+-- `network_path::load::load` meets its contract. The loop's invariant: the load of the segments to come gives what the whole load gives.
+-- Assumes nothing.
+use Prim.Native.Nat.{◌+◌, ◌≤◌, ◌-◌}
+use native.Mathlib.Omega.{arith}
+use borrow.Author.Rules.{rules}
+use lib.ListN.{length}
+use Rattle.network_path.proofs.PathLaws.{SegmentOn, segment_on, path_end}
+use Rattle.network_path.proofs.LoadLaws.{Loading, loading_none, part_long, part_fits, loading_more, loading_all}
+use Rattle.network_path.proofs.load.load.Given as goal
+
+abbrev pub invariant-loop-i : goal.invariant-loop-i
+invariant-loop-i l = (l.i ≤ l.n) × Loading l.nodes l.way l.n l.scan l.initial.bits l.initial.known l.i l.p l.bits l.known
+
+abbrev pub decreases-loop-i : goal.decreases-loop-i
+decreases-loop-i l = l.n - l.i

@@ -1,0 +1,22 @@
+-- `planner_backward::keep_slot` meets its contract. The invariant: slot i is filtered up to setting x.
+-- Assumes nothing.
+use Prim.Native.Nat.{◌+◌, ◌≤◌, ◌<◌, ◌-◌}
+use mathlib.Core.Path.{◌≡◌, refl}
+use native.Mathlib.Omega.{arith}
+use lib.ListN.{length, length-set}
+use Rattle.planner_theory.specs.Moves.{all_of}
+use Rattle.planner_settings.specs.Route.{Each}
+use Rattle.planner_settings.proofs.SettingWalk.{settings_count}
+use Rattle.planner_rows.specs.Rows.{RowsRight}
+use Rattle.planner_backward.specs.Keeping.{leads}
+use Rattle.planner_backward.proofs.Filtering.{Filtering, filtering_none, filtering_more, filtering_skip, filtering_all}
+use Rattle.planner_backward.proofs.SetTests.{filtered_by, leads_same}
+use borrow.Author.Rules.{rules}
+use Rattle.planner_backward.proofs.keep_slot.Given as goal
+
+abbrev pub invariant-loop-x : goal.invariant-loop-x
+invariant-loop-x l = (l.x ≤ l.end) × (length l.table ≡ length l.initial.table) × RowsRight l.nodes l.steering l.problem l.rows
+    × Each l.nodes l.steering l.problem (λ net. l.full ≡ all_of net.targets → Filtering (leads net l.initial.table l.d l.i) l.i l.x l.initial.table l.table)
+
+abbrev pub decreases-loop-x : goal.decreases-loop-x
+decreases-loop-x l = l.end - l.x

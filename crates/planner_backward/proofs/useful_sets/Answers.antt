@@ -1,0 +1,27 @@
+-- `planner_backward::useful_sets` meets its contract.
+-- Assumes nothing.
+use mathlib.Core.Path.{refl}
+use Rattle.planner_backward.proofs.SetTests.{useful_are}
+use Rattle.planner_rows.proofs.RowLaws.{listed_small, land_small, gain_small, gain_read, gain_read_small}
+use borrow.Author.Rules.{rules}
+use Rattle.planner_backward.proofs.useful_sets.Goals as goal
+
+pub list_lands-n-requires : goal.list_lands-n-requires
+list_lands-n-requires c = let p = c in
+    (refl, p.requires.search_size_in_bounds.1, p.requires.landing)
+
+pub union_of-all-requires : goal.union_of-all-requires
+union_of-all-requires c = let p = c in
+    let l = c.list_lands-n.ensures in
+    ((p.requires.search_size_in_bounds.0, l.most, p.requires.search_size_in_bounds.2), listed_small p.requires.landing.1 l)
+
+pub kept-requires : goal.kept-requires
+kept-requires c = gain_read_small c.requires.landing.1 c.number.result c.number.ensures
+
+pub returns : goal.returns
+returns c = let p = c in
+    let l = c.list_lands-n in
+    let u = c.union_of-all in
+    λ net d.
+    useful_are net p.args.table.now p.args.i p.args.x l.result _ p.args.sets u.result c.number.result c.kept.result
+    (land_small d) (gain_small d) (l.ensures.of net d) u.ensures (gain_read d c.number.result c.number.ensures) c.kept.ensures

@@ -1,0 +1,41 @@
+-- `planner_line::list_wants` meets its contract. The loop's invariant: the words of the targets from i on.
+-- Assumes nothing.
+use Prim.Native.Nat.{◌-◌}
+use native.Mathlib.Omega.{arith}
+use borrow.Author.Rules.{rules}
+use Rattle.planner_line.proofs.WantedWords.{Wanting, wanting_none, wanting_more, wanting_all}
+use Rattle.planner_line.proofs.list_wants.Goals as goal
+
+pub loop-i-init : goal.loop-i-init
+loop-i-init c = wanting_none _ _ c.requires.2
+
+pub offset_bounds-t-i : goal.offset_bounds-t-i
+offset_bounds-t-i c = omega (arith, c.requires.0.targets-fit, c.loop-i.invariant.within)
+
+pub bounds-t-i : goal.bounds-t-i
+bounds-t-i c = omega (arith, c.requires.0.targets-fit, c.loop-i.invariant.within)
+
+pub offset_bounds-t-i-in-loop-i : goal.offset_bounds-t-i-in-loop-i
+offset_bounds-t-i-in-loop-i c = omega (arith, c.requires.0.targets-fit, c.loop-i.invariant.within)
+
+pub bounds-t-i-in-loop-i : goal.bounds-t-i-in-loop-i
+bounds-t-i-in-loop-i c = omega (arith, c.requires.0.targets-fit, c.loop-i.invariant.within)
+
+pub offset_bounds-t-i-in-loop-i-2 : goal.offset_bounds-t-i-in-loop-i-2
+offset_bounds-t-i-in-loop-i-2 c = omega (arith, c.requires.0.targets-fit, c.loop-i.invariant.within)
+
+pub bounds-t-i-in-loop-i-2 : goal.bounds-t-i-in-loop-i-2
+bounds-t-i-in-loop-i-2 c = omega (arith, c.requires.0.targets-fit, c.loop-i.invariant.within)
+
+pub want_target-requires : goal.want_target-requires
+want_target-requires c = let test = c in
+    let l = test in
+    (l.requires.1 (l.loop-i.i - 1) (omega (arith, test.loop-i-test.true, l.loop-i.invariant.within)), l.loop-i.invariant.size)
+
+pub loop-i-preserved : goal.loop-i-preserved
+loop-i-preserved c = let test = c in
+    let l = test in
+    wanting_more _ test.loop-i-test.true l.loop-i.invariant l.requires.1 c.want_target.ensures
+
+pub returns : goal.returns
+returns c = wanting_all _ c.loop-i-test.false c.loop-i.invariant

@@ -1,0 +1,14 @@
+-- `planner_line::put_operation` meets its contract. The loop's invariant: the first i segments are written.
+-- Assumes nothing.
+use Prim.Native.Nat.{◌≤◌, ◌-◌}
+use native.Mathlib.Omega.{arith}
+use borrow.Author.Rules.{rules}
+use Rattle.network_path.proofs.PathLaws.{SegmentOn, segment_on}
+use Rattle.planner_line.proofs.PutOperation.{Putting, operation_none, segment_fits, segment_zeros, operation_more, operation_place, operation_all}
+use Rattle.planner_line.proofs.put_operation.Given as goal
+
+abbrev pub invariant-loop-i : goal.invariant-loop-i
+invariant-loop-i l = (l.i ≤ l.n) × Putting l.nodes l.steering l.wants l.way l.n l.at l.h l.c l.initial.plan l.i l.place l.left l.plan
+
+abbrev pub decreases-loop-i : goal.decreases-loop-i
+decreases-loop-i l = l.n - l.i

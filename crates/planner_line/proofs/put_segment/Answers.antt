@@ -1,0 +1,10 @@
+-- `planner_line::put_segment` meets its contract.
+-- Assumes nothing.
+use mathlib.Core.Path.{refl}
+use borrow.Author.Rules.{rules}
+use Rattle.planner_line.proofs.PutBits.{zeros_stay}
+use Rattle.planner_line.proofs.put_segment.Goals as goal
+
+pub returns-then-want-eq0 : goal.returns-then-want-eq0
+returns-then-want-eq0 c = let p = c in
+    (zeros_stay _ _ _ _ _ _ _ p.requires.len_le_word_width.1 p.requires.zeros_from c.if-steer-eq0.true c.if-want-eq0.true, λ k l. refl)

@@ -1,0 +1,12 @@
+-- `planner_rows::know_row` meets its contract. The row is known, or it is read.
+-- Assumes nothing.
+use mathlib.Core.Path.{sym, ◌∙◌}
+use borrow.Author.Rules.{rules}
+use Rattle.planner_rows.proofs.know_row.Goals as goal
+
+pub returns-then-number-eq1 : goal.returns-then-number-eq1
+returns-then-number-eq1 c = let s = c in
+    (s.requires.x_lt_max_settings.1, sym c.number.ensures ∙ c.if-number-eq1.true)
+
+pub returns : goal.returns
+returns c = c.read_row.ensures

@@ -1,0 +1,43 @@
+-- `planner_rows::write_path` meets its contract. The order, the base and the targets are those of the path.
+-- Assumes nothing.
+use mathlib.Core.Path.{refl}
+use native.Mathlib.Omega.{arith}
+use Rattle.planner_settings.proofs.SettingWalk.{planned_listed, planned_steers, planned_targets}
+use Rattle.planner_settings.proofs.PathMarks.{no_marks, marks_flags}
+use Rattle.planner_theory.proofs.MoveLaws.{path_short}
+use Rattle.planner_rows.proofs.PathRows.{order_small, row_read}
+use borrow.Author.Rules.{rules}
+use Rattle.planner_rows.proofs.write_path.Goals as goal
+
+pub mark_path-requires : goal.mark_path-requires
+mark_path-requires c = ((c.requires.path_read.0, c.requires.path_read.2.holds), no_marks)
+
+pub order_of-m-requires : goal.order_of-m-requires
+order_of-m-requires c = let s = c in
+    let q = s.requires.path_read.2 in
+    (((s.requires.path_read.0, q.holds), q.prepared.few, refl), planned_steers _ _ _ _ q.prepared)
+
+pub mask_of_targets-gain-requires : goal.mask_of_targets-gain-requires
+mask_of_targets-gain-requires c = let q = c.requires.path_read.2 in
+    (q.prepared.in-limits, planned_targets _ _ _ _ q.prepared, marks_flags _ _ _ c.mark_path.ensures)
+
+pub base_of-base-requires : goal.base_of-base-requires
+base_of-base-requires c = let q = c.requires.path_read.2 in
+    (q.prepared.few, (planned_listed _ _ _ _ q.prepared).within)
+
+pub overflow_cast-len : goal.overflow_cast-len
+overflow_cast-len c = let q = c.requires.path_read.2 in
+    omega (arith, path_short _ q.prepared.accepted _ _ q.tells, q.long)
+
+pub write_row-requires : goal.write_row-requires
+write_row-requires c = let s = c in
+    let o = c.order_of-m.ensures in
+    ((s.requires.rows_len.0, s.requires.rows_len.1, o.most), order_small _ _ _ _ _ o s.requires.path_read.2.prepared)
+
+pub returns : goal.returns
+returns c = let at-base-of = c in
+    let at-mask-of-targets = at-base-of in
+    let at-order-of = at-mask-of-targets in
+    let at-mark-path = at-order-of in
+    row_read _ _ _ _ _ at-order-of.order_of-m.ensures _ at-mark-path.mark_path.ensures _ _ _ _ _ c.power_of_2.ensures.0
+    at-mask-of-targets.mask_of_targets-gain.ensures at-base-of.base_of-base.ensures _ _ c.write_row.ensures _

@@ -1,0 +1,14 @@
+-- `planner_rows::write_row` meets its contract. The first five numbers are stored one after the other, then the order.
+-- Assumes nothing.
+use lib.ListN.{length-set}
+use Rattle.planner_rows.proofs.RowWriting.{row_written}
+use borrow.Author.Rules.{rules}
+use Rattle.planner_rows.proofs.write_row.Goals as goal
+
+pub write_order-requires : goal.write_order-requires
+write_order-requires c = let p = c.requires in
+    ((simp length-set p.0.0, p.0.1, p.0.2), p.1)
+
+pub returns : goal.returns
+returns c = let s = c in
+    row_written _ _ s.requires.rows_len.0 s.requires.rows_len.1 _ _ _ _ _ _ _ c.write_order.ensures

@@ -1,0 +1,19 @@
+-- `planner_text::write_text` meets its contract. The invariant: the table is right, and the law `Writing`: the lines of i choices
+-- stand in front of at.
+-- Assumes nothing.
+use mathlib.Core.Path.{◌≡◌}
+use Prim.Native.Nat.{ℕ, ◌-◌}
+use native.Mathlib.Omega.{arith}
+use lib.ListN.{length, length-replicate}
+use Rattle.planner_rows.specs.Rows.{RowsRight}
+use Rattle.planner_settings.proofs.PathMarks.{no_marks}
+use Rattle.planner_settings.proofs.SettingWalk.{planned_targets}
+use Rattle.planner_text.proofs.Writings.{turn_small, turn_lands, turn_choice, Writing, writing_none, writing_room, writing_stops, writing_more, writing_all}
+use borrow.Author.Rules.{rules}
+use Rattle.planner_text.proofs.write_text.Given as goal
+
+abbrev pub invariant-loop-i : goal.invariant-loop-i
+invariant-loop-i l = RowsRight l.nodes l.steering l.problem l.rows × (length l.way ≡ 128) × Writing l.nodes l.steering l.problem l.start l.picked l.n l.initial.plan l.i l.x l.at l.plan
+
+abbrev pub decreases-loop-i : goal.decreases-loop-i
+decreases-loop-i l = l.n - l.i

@@ -1,0 +1,17 @@
+-- `recover_answer::print_recovery` meets its contract.
+-- Assumes nothing.
+use mathlib.Core.Path.{ap, ◌∙◌}
+use borrow.Author.Rules.{rules}
+use Rattle.model.specs.Result.{Result}
+use Rattle.recover_model.specs.RecoverCalls.{Progress}
+use Rattle.program_text.proofs.Front.{at_front, printed_to}
+use Rattle.recover_line.specs.Answers.{stepped}
+use Rattle.recover_answer.specs.Recovery.{recovery_shown}
+use Rattle.recover_answer.proofs.RecoveryShown.{shown_refused, shown_as}
+use Rattle.recover_answer.proofs.print_recovery.Goals as goal
+
+pub returns-in-Refused : goal.returns-in-Refused
+returns-in-Refused c = let a = c.args in printed_to _ _ (at_front _ _ (ap (λ (r : Result Progress). recovery_shown r a.rest.now a.plan.now) (ap stepped c.in-Refused.is) ∙ shown_refused a.rest.now a.plan.now _ _) c.put_refusal.ensures)
+
+pub returns-in-To : goal.returns-in-To
+returns-in-To c = let e = c.print_end.ensures in (shown_as _ _ _ _ (ap stepped c.in-To.is) e.0, e.1)

@@ -1,0 +1,27 @@
+-- `recoverer::whole::recover_text` meets its contract. What the calls in turn leave in the own buffer decides.
+-- Assumes nothing.
+use mathlib.Core.Path.{ap, sym}
+use native.Mathlib.Omega.{arith}
+use lib.Seq.{length-take-le}
+use borrow.Author.Rules.{rules}
+use Rattle.recover_line.specs.Answers.{end_answer}
+use Rattle.recoverer.proofs.WholeCall.{whole_refused, whole_short, whole_written}
+use Rattle.recoverer.proofs.whole.recover_text.Goals as goal
+
+pub returns-then-plan-count : goal.returns-then-plan-count
+returns-then-plan-count c = whole_short _ _ _ _ c.recover_in_turn-recovered.ensures _ (ap end_answer c.in-Bytes.is) c.if-plan-count.true
+
+pub slice_bounds-own-end : goal.slice_bounds-own-end
+slice_bounds-own-end c = c.recover_in_turn-recovered.ensures.within _ (ap end_answer c.in-Bytes.is)
+
+pub slice_bounds-put-end : goal.slice_bounds-put-end
+slice_bounds-put-end c = sym (length-take-le _ _ (array-share-prefix-own c))
+
+pub put-requires : goal.put-requires
+put-requires c = omega (arith, slice-aggregate-put c, c.if-plan-count.false)
+
+pub returns-in-Refused : goal.returns-in-Refused
+returns-in-Refused c = whole_refused _ _ _ _ c.recover_in_turn-recovered.ensures _ _ (ap end_answer c.in-Refused.is)
+
+pub returns-else-plan-count : goal.returns-else-plan-count
+returns-else-plan-count c = whole_written _ _ _ _ c.recover_in_turn-recovered.ensures _ (ap end_answer c.in-Bytes.is) c.if-plan-count.false _ c.put.ensures.buf_after

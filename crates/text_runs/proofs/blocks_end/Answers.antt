@@ -1,0 +1,19 @@
+-- `text_runs::blocks_end` meets its contract. The loop's invariant: the run from i on ends where that from `at` on ends.
+-- Assumes nothing.
+use mathlib.Core.Path.{◌≡◌, refl}
+use Prim.Native.Nat.{◌+◌, ◌-◌, ◌≤◌}
+use lib.ListN.{length, drop}
+use borrow.Author.Rules.{rules}
+use borrow.Author.Tests.{not-false}
+use Rattle.text_runs.specs.Runs.{in_run, run_length}
+use Rattle.text_runs.proofs.RunLaws.{run_block}
+use Rattle.text_runs.proofs.blocks_end.Goals as goal
+
+pub returns-then-not-each_in : goal.returns-then-not-each_in
+returns-then-not-each_in c = c.loop-i.invariant.1
+
+pub loop-i-preserved : goal.loop-i-preserved
+loop-i-preserved c = (search rules, run_block _ _ _ 32 _ c.loop-i.invariant.1 _ c.each_in.ensures (not-false _ c.if-not-each_in.false-raw))
+
+pub returns : goal.returns
+returns c = c.loop-i.invariant.1

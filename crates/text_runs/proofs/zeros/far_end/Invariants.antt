@@ -1,0 +1,17 @@
+-- `text_runs::zeros::far_end` meets its contract. The loop's invariant: the run from i on ends where that from `at` on ends.
+-- Assumes nothing.
+use mathlib.Core.Path.{◌≡◌}
+use Prim.Native.Nat.{◌+◌, ◌-◌}
+use native.Mathlib.Omega.{arith}
+use lib.ListN.{length, drop, length-drop}
+use borrow.Author.Rules.{rules}
+use borrow.Author.Tests.{eq-eqb, ne_eqb}
+use Rattle.text_runs.specs.Runs.{run_length, is_zero}
+use Rattle.text_runs.proofs.RunLaws.{run_end, run_stop, run_on, run_within}
+use Rattle.text_runs.proofs.zeros.far_end.Given as goal
+
+abbrev pub invariant-loop-i : goal.invariant-loop-i
+invariant-loop-i l = l.i + run_length is_zero (drop l.i l.s) ≡ l.at + run_length is_zero (drop l.at l.s)
+
+abbrev pub decreases-loop-i : goal.decreases-loop-i
+decreases-loop-i l = length l.s - l.i
