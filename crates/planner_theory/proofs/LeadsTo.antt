@@ -127,6 +127,7 @@ put_off q v look s b ne = rw (place_other q s b ne)
 
 setting_put : (sb : List (ℕ × ℕ)) → Distinct sb → (q : ℕ × ℕ) (look : Look) → Memᴰ q sb → look q.0 q.1 ≡ some false → setting_of sb (put q true look) ≡ setting_of sb look + 3 ^ index_of q sb
 unfolding setting_of index_of
+setting_put _ distinct_nil q look m z = elim m [ ]
 setting_put _ (distinct_cons {a = r} {l = sb} fresh d) q look (Memᴰ.head e) z =
     let rest : setting_of sb (put q true look) ≡ setting_of sb look = setting_same sb (put q true look) look (λ k m. put_off q true look k.0 k.1 (λ y. fresh (Memᴰ.cast (sym e ∙ y) m))) in
     let here : put q true look r.0 r.1 ≡ some true = put_on q r true look e in
