@@ -297,7 +297,7 @@ class Function:
                 h = helpers[name]
                 sig = "\n".join(h["sig"])
                 m = re.search(r":\s*\((\w+) : tie\.([^\s)]+)", sig)
-                n = re.match(r"\S+(?: \S+)* : tie\.([^\s)]+)([^→(]*)→", sig)
+                n = re.match(r"(?:(?:abbrev|pub|unfoldable) )*\S+ : tie\.([^\s)]+)([^→(]*)→", sig)
                 if n and len(h["clauses"]) == 1:
                     v = split_clause(h["clauses"][0])[0][0]
                     sig = sig[:n.start(1) - 4] + f"({v} : tie.{n.group(1)}{n.group(2).rstrip()}) →" + sig[n.end():]

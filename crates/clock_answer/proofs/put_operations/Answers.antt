@@ -19,19 +19,19 @@ put_operation-next-requires c = let l = c in
 
 pub overflow_add-at : goal.overflow_add-at
 overflow_add-at c =
-    let within : ) → c.loop-at.at + (5 + length c.bits_at-bits.result.now) ≤ length c.args.plan.now =
+    let within : c.loop-at.at + (5 + length c.bits_at-bits.result.now) ≤ length c.args.plan.now =
         line_within _ _ _ _ _ c.loop-at.invariant c.loop-at-test.true _ c.bits_at-bits.ensures in
     omega (arith, within)
 
 pub overflow_add-at-in-loop-at : goal.overflow_add-at-in-loop-at
 overflow_add-at-in-loop-at c =
-    let within : ) → c.loop-at.at + (5 + length c.bits_at-bits.result.now) ≤ length c.args.plan.now =
+    let within : c.loop-at.at + (5 + length c.bits_at-bits.result.now) ≤ length c.args.plan.now =
         line_within _ _ _ _ _ c.loop-at.invariant c.loop-at-test.true _ c.bits_at-bits.ensures in
     omega (arith, within)
 
 pub loop-at-smaller : goal.loop-at-smaller
 loop-at-smaller c =
-    let within : ) → c.loop-at.at + (5 + length c.bits_at-bits.result.now) ≤ length c.args.plan.now =
+    let within : c.loop-at.at + (5 + length c.bits_at-bits.result.now) ≤ length c.args.plan.now =
         line_within _ _ _ _ _ c.loop-at.invariant c.loop-at-test.true _ c.bits_at-bits.ensures in
     omega (arith, within)
 

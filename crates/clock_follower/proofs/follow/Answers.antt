@@ -36,7 +36,7 @@ passed-then-requires c = let v = c.loop-i.invariant in (v.2, v.3, omega (arith, 
 
 pub returns-in-Offends : goal.returns-in-Offends
 returns-in-Offends c =
-    let stretch : ) → IsStretch c.loop-i.now.state (drop c.loop-i.i c.args.tms.now) (c.stretch_end-end.result - c.loop-i.i) c.next_state-next.result =
+    let stretch : IsStretch c.loop-i.now.state (drop c.loop-i.i c.args.tms.now) (c.stretch_end-end.result - c.loop-i.i) c.next_state-next.result =
         stretch_of _ _ _ _ _ c.stretch_end-end.ensures c.next_state-next.ensures in
     let s = c in
     let l = s.loop-i in
@@ -47,7 +47,7 @@ loop-i-smaller c = let e = c.stretch_end-end.ensures in omega (arith, e.some-clo
 
 pub loop-i-preserved : goal.loop-i-preserved
 loop-i-preserved c =
-    let stretch : ) → IsStretch c.loop-i.now.state (drop c.loop-i.i c.args.tms.now) (c.stretch_end-end.result - c.loop-i.i) c.next_state-next.result =
+    let stretch : IsStretch c.loop-i.now.state (drop c.loop-i.i c.args.tms.now) (c.stretch_end-end.result - c.loop-i.i) c.next_state-next.result =
         stretch_of _ _ _ _ _ c.stretch_end-end.ensures c.next_state-next.ensures in
     let s = c in
     let l = s.loop-i in

@@ -12,7 +12,7 @@ use Rattle.clock_follower.proofs.stretch_end.Goals as goal
 
 pub overflow_add-result-else-end-tms : goal.overflow_add-result-else-end-tms
 overflow_add-result-else-end-tms c =
-    let run_inside : ) → c.zeros_end-end.result ≤ length c.args.tms.now =
+    let run_inside : c.zeros_end-end.result ≤ length c.args.tms.now =
         let a = c.args in omega (arith, c.zeros_end-end.ensures, run_within is_zero (drop a.at a.tms.now), length-drop a.at a.tms.now) in
     omega (arith, run_inside)
 
@@ -21,6 +21,6 @@ returns-then-end-tms c = zeros_end _ _ _ _ _ (c.waits.ensures (not-false _ c.if-
 
 pub returns-else-end-tms : goal.returns-else-end-tms
 returns-else-end-tms c =
-    let run_inside : ) → c.zeros_end-end.result ≤ length c.args.tms.now =
+    let run_inside : c.zeros_end-end.result ≤ length c.args.tms.now =
         let a = c.args in omega (arith, c.zeros_end-end.ensures, run_within is_zero (drop a.at a.tms.now), length-drop a.at a.tms.now) in
     zeros_end _ _ _ _ _ (c.waits.ensures (not-false _ c.if-not-waits.false-raw)) c.zeros_end-end.ensures (omega arith) (omega arith) (omega (arith, run_inside))

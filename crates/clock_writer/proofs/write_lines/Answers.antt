@@ -15,23 +15,23 @@ bits_at-bits-requires c = omega (arith, line_within _ _ _ _ _ _ c.loop-at.invari
 
 pub write_tms-requires : goal.write_tms-requires
 write_tms-requires c =
-    let kept : ) → (length c.loop-at.tms ≡ length c.args.tms.now) × (length c.loop-at.tdi ≡ length c.args.tdi.now) =
+    let kept : (length c.loop-at.tms ≡ length c.args.tms.now) × (length c.loop-at.tdi ≡ length c.args.tdi.now) =
         written_kept _ _ _ _ _ _ c.loop-at.invariant c.requires.plan_in_bounds.0 c.requires.plan_in_bounds.1 in
-    let fits : ) → c.loop-at.at + (5 + length c.bits_at-bits.result.now) ≤ length c.args.plan.now =
+    let fits : c.loop-at.at + (5 + length c.bits_at-bits.result.now) ≤ length c.args.plan.now =
         line_within _ _ _ _ _ _ c.loop-at.invariant c.loop-at-test.true _ c.bits_at-bits.ensures in
     omega (arith, kept.0, fits)
 
 pub write_tdi-at-requires : goal.write_tdi-at-requires
 write_tdi-at-requires c =
-    let kept : ) → (length c.loop-at.tms ≡ length c.args.tms.now) × (length c.loop-at.tdi ≡ length c.args.tdi.now) =
+    let kept : (length c.loop-at.tms ≡ length c.args.tms.now) × (length c.loop-at.tdi ≡ length c.args.tdi.now) =
         written_kept _ _ _ _ _ _ c.loop-at.invariant c.requires.plan_in_bounds.0 c.requires.plan_in_bounds.1 in
-    let fits : ) → c.loop-at.at + (5 + length c.bits_at-bits.result.now) ≤ length c.args.plan.now =
+    let fits : c.loop-at.at + (5 + length c.bits_at-bits.result.now) ≤ length c.args.plan.now =
         line_within _ _ _ _ _ _ c.loop-at.invariant c.loop-at-test.true _ c.bits_at-bits.ensures in
     omega (arith, kept.1, fits)
 
 pub loop-at-smaller : goal.loop-at-smaller
 loop-at-smaller c =
-    let line-done : ) → let l = c in
+    let line-done : let l = c in
     let a = l.args in
     WrittenTo a.plan.now a.tms.now a.tdi.now c.write_tms.new.0 c.write_tdi-at.new.0 c.write_tdi-at.result =
         let w = c in
@@ -44,7 +44,7 @@ loop-at-smaller c =
 
 pub loop-at-preserved : goal.loop-at-preserved
 loop-at-preserved c =
-    let line-done : ) → let l = c in
+    let line-done : let l = c in
     let a = l.args in
     WrittenTo a.plan.now a.tms.now a.tdi.now c.write_tms.new.0 c.write_tdi-at.new.0 c.write_tdi-at.result =
         let w = c in
@@ -56,13 +56,13 @@ loop-at-preserved c =
 
 pub shape_of-tms : goal.shape_of-tms
 shape_of-tms c =
-    let kept : ) → (length c.loop-at.tms ≡ length c.args.tms.now) × (length c.loop-at.tdi ≡ length c.args.tdi.now) =
+    let kept : (length c.loop-at.tms ≡ length c.args.tms.now) × (length c.loop-at.tdi ≡ length c.args.tdi.now) =
         written_kept _ _ _ _ _ _ c.loop-at.invariant c.requires.plan_in_bounds.0 c.requires.plan_in_bounds.1 in
     kept.0
 
 pub shape_of-tdi : goal.shape_of-tdi
 shape_of-tdi c =
-    let kept : ) → (length c.loop-at.tms ≡ length c.args.tms.now) × (length c.loop-at.tdi ≡ length c.args.tdi.now) =
+    let kept : (length c.loop-at.tms ≡ length c.args.tms.now) × (length c.loop-at.tdi ≡ length c.args.tdi.now) =
         written_kept _ _ _ _ _ _ c.loop-at.invariant c.requires.plan_in_bounds.0 c.requires.plan_in_bounds.1 in
     kept.1
 

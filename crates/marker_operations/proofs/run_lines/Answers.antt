@@ -39,7 +39,7 @@ returns-in-NotValid c = let o = c in
 
 pub overflow_add-at-in-loop-at : goal.overflow_add-at-in-loop-at
 overflow_add-at-in-loop-at c =
-    let fits : ) → let l = c.loop-at in (l.at + (5 + length c.bits_at-scan.result.now) ≤ length c.args.plan.now) × (l.k ≤ suc l.at) =
+    let fits : let l = c.loop-at in (l.at + (5 + length c.bits_at-scan.result.now) ≤ length c.args.plan.now) × (l.k ≤ suc l.at) =
         let l = c in
     let s = l in
     let g = l.loop-at.invariant s.requires.on_some_path.0.0 s.requires.has_form.0 s.requires.has_form.1 s.requires.on_some_path.0.1 in
@@ -48,7 +48,7 @@ overflow_add-at-in-loop-at c =
 
 pub overflow_add-k : goal.overflow_add-k
 overflow_add-k c =
-    let fits : ) → let l = c.loop-at in (l.at + (5 + length c.bits_at-scan.result.now) ≤ length c.args.plan.now) × (l.k ≤ suc l.at) =
+    let fits : let l = c.loop-at in (l.at + (5 + length c.bits_at-scan.result.now) ≤ length c.args.plan.now) × (l.k ≤ suc l.at) =
         let l = c in
     let s = l in
     let g = l.loop-at.invariant s.requires.on_some_path.0.0 s.requires.has_form.0 s.requires.has_form.1 s.requires.on_some_path.0.1 in
@@ -57,7 +57,7 @@ overflow_add-k c =
 
 pub loop-at-smaller : goal.loop-at-smaller
 loop-at-smaller c =
-    let fits : ) → let l = c.loop-at in (l.at + (5 + length c.bits_at-scan.result.now) ≤ length c.args.plan.now) × (l.k ≤ suc l.at) =
+    let fits : let l = c.loop-at in (l.at + (5 + length c.bits_at-scan.result.now) ≤ length c.args.plan.now) × (l.k ≤ suc l.at) =
         let l = c in
     let s = l in
     let g = l.loop-at.invariant s.requires.on_some_path.0.0 s.requires.has_form.0 s.requires.has_form.1 s.requires.on_some_path.0.1 in

@@ -52,9 +52,9 @@ pub offset_bounds-held-s : goal.offset_bounds-held-s
 offset_bounds-held-s c =
     let start : tie.Start =
         c in
-    let there : ) → (1 ≤ start.args.s) × (start.args.s ≤ start.args.t.count) =
+    let there : (1 ≤ start.args.s) × (start.args.s ≤ start.args.t.count) =
         c.len_of-len.ensures.1 (let ne = c.if-len-eq0.false in omega arith) in
-    let in-range : ) → start.args.s ≤ 128 =
+    let in-range : start.args.s ≤ 128 =
         omega (arith, there.1, start.requires.0.nodes-fit) in
     omega (arith, in-range)
 
@@ -62,9 +62,9 @@ pub bounds-held-s : goal.bounds-held-s
 bounds-held-s c =
     let start : tie.Start =
         c in
-    let there : ) → (1 ≤ start.args.s) × (start.args.s ≤ start.args.t.count) =
+    let there : (1 ≤ start.args.s) × (start.args.s ≤ start.args.t.count) =
         c.len_of-len.ensures.1 (let ne = c.if-len-eq0.false in omega arith) in
-    let in-range : ) → start.args.s ≤ 128 =
+    let in-range : start.args.s ≤ 128 =
         omega (arith, there.1, start.requires.0.nodes-fit) in
     omega (arith, in-range)
 
@@ -72,9 +72,9 @@ pub returns-then-held-s-eq-BY_HOLD : goal.returns-then-held-s-eq-BY_HOLD
 returns-then-held-s-eq-BY_HOLD c =
     let start : tie.Start =
         c in
-    let there : ) → (1 ≤ start.args.s) × (start.args.s ≤ start.args.t.count) =
+    let there : (1 ≤ start.args.s) × (start.args.s ≤ start.args.t.count) =
         c.len_of-len.ensures.1 (let ne = c.if-len-eq0.false in omega arith) in
-    let in-range : ) → start.args.s ≤ 128 =
+    let in-range : start.args.s ≤ 128 =
         omega (arith, there.1, start.requires.0.nodes-fit) in
     let fits : {bits known steering held : List ℕ} {d : Draft}) → is_some (bits_from trit [] start.args.f.now) ≡ true
     → Represents (arrays start.args.nodes.now bits known steering held) start.args.t d start.args.n
@@ -97,11 +97,11 @@ pub store_start-requires : goal.store_start-requires
 store_start-requires c =
     let start : tie.Start =
         c in
-    let there : ) → (1 ≤ start.args.s) × (start.args.s ≤ start.args.t.count) =
+    let there : (1 ≤ start.args.s) × (start.args.s ≤ start.args.t.count) =
         c.len_of-len.ensures.1 (let ne = c.if-len-eq0.false in omega arith) in
-    let in-range : ) → start.args.s ≤ 128 =
+    let in-range : start.args.s ≤ 128 =
         omega (arith, there.1, start.requires.0.nodes-fit) in
-    let its-length : ) → length start.args.f.now ≡ len_of (node_at start.args.nodes.now start.args.s) =
+    let its-length : length start.args.f.now ≡ len_of (node_at start.args.nodes.now start.args.s) =
         let r = there in
     c.if-f-len.false ∙ c.len_of-len.ensures.0 ∙ ap len_of (node_in _ _ _ r.0 r.1) in
     let at-if3 = c in
@@ -112,11 +112,11 @@ pub returns : goal.returns
 returns c =
     let start : tie.Start =
         c in
-    let there : ) → (1 ≤ start.args.s) × (start.args.s ≤ start.args.t.count) =
+    let there : (1 ≤ start.args.s) × (start.args.s ≤ start.args.t.count) =
         c.len_of-len.ensures.1 (let ne = c.if-len-eq0.false in omega arith) in
-    let in-range : ) → start.args.s ≤ 128 =
+    let in-range : start.args.s ≤ 128 =
         omega (arith, there.1, start.requires.0.nodes-fit) in
-    let its-length : ) → length start.args.f.now ≡ len_of (node_at start.args.nodes.now start.args.s) =
+    let its-length : length start.args.f.now ≡ len_of (node_at start.args.nodes.now start.args.s) =
         let r = there in
     c.if-f-len.false ∙ c.len_of-len.ensures.0 ∙ ap len_of (node_in _ _ _ r.0 r.1) in
     let fits : {bits known steering held : List ℕ} {d : Draft}) → is_some (bits_from trit [] start.args.f.now) ≡ true

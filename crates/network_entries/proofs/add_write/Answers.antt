@@ -51,9 +51,9 @@ pub words_of-w-requires : goal.words_of-w-requires
 words_of-w-requires c =
     let start : tie.Start =
         c in
-    let there : ) → (1 ≤ start.args.s) × (start.args.s ≤ start.args.t.count) =
+    let there : (1 ≤ start.args.s) × (start.args.s ≤ start.args.t.count) =
         c.len_of-len.ensures.1 (let ne = c.if-len-eq0.false in omega arith) in
-    let its-length : ) → length start.args.f.now ≡ len_of (node_at start.args.nodes.now start.args.s) =
+    let its-length : length start.args.f.now ≡ len_of (node_at start.args.nodes.now start.args.s) =
         let r = there in
     c.if-f-len.false ∙ c.len_of-len.ensures.0 ∙ ap len_of (node_in _ _ _ r.0 r.1) in
     let r = there in
@@ -63,7 +63,7 @@ pub add_target-requires : goal.add_target-requires
 add_target-requires c =
     let start : tie.Start =
         c in
-    let there : ) → (1 ≤ start.args.s) × (start.args.s ≤ start.args.t.count) =
+    let there : (1 ≤ start.args.s) × (start.args.s ≤ start.args.t.count) =
         c.len_of-len.ensures.1 (let ne = c.if-len-eq0.false in omega arith) in
     let at-if2 = c in
     let p = (start at-if2).requires.0 in
@@ -73,9 +73,9 @@ pub returns : goal.returns
 returns c =
     let start : tie.Start =
         c in
-    let there : ) → (1 ≤ start.args.s) × (start.args.s ≤ start.args.t.count) =
+    let there : (1 ≤ start.args.s) × (start.args.s ≤ start.args.t.count) =
         c.len_of-len.ensures.1 (let ne = c.if-len-eq0.false in omega arith) in
-    let its-length : ) → length start.args.f.now ≡ len_of (node_at start.args.nodes.now start.args.s) =
+    let its-length : length start.args.f.now ≡ len_of (node_at start.args.nodes.now start.args.s) =
         let r = there in
     c.if-f-len.false ∙ c.len_of-len.ensures.0 ∙ ap len_of (node_in _ _ _ r.0 r.1) in
     let at-if3 = c in

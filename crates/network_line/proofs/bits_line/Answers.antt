@@ -30,7 +30,7 @@ pub overflow_sub-end : goal.overflow_sub-end
 overflow_sub-end c =
     let start : tie.Start =
         c in
-    let placed : ) → FieldAt start.args.line.now start.args.starts.now 2 =
+    let placed : FieldAt start.args.line.now start.args.starts.now 2 =
         start.requires.placed 2 (omega arith) (omega (arith, start.requires.counted)) in
     omega (arith, placed.ordered)
 
@@ -38,7 +38,7 @@ pub slice_bounds-are_bits-count : goal.slice_bounds-are_bits-count
 slice_bounds-are_bits-count c =
     let start : tie.Start =
         c in
-    let placed : ) → FieldAt start.args.line.now start.args.starts.now 2 =
+    let placed : FieldAt start.args.line.now start.args.starts.now 2 =
         start.requires.placed 2 (omega arith) (omega (arith, start.requires.counted)) in
     omega (arith, placed.ordered)
 
@@ -46,7 +46,7 @@ pub slice_bounds-are_bits-start : goal.slice_bounds-are_bits-start
 slice_bounds-are_bits-start c =
     let start : tie.Start =
         c in
-    let placed : ) → FieldAt start.args.line.now start.args.starts.now 2 =
+    let placed : FieldAt start.args.line.now start.args.starts.now 2 =
         start.requires.placed 2 (omega arith) (omega (arith, start.requires.counted)) in
     omega (arith, placed.ordered)
 
@@ -54,7 +54,7 @@ pub slice_bounds-are_bits-end : goal.slice_bounds-are_bits-end
 slice_bounds-are_bits-end c =
     let start : tie.Start =
         c in
-    let placed : ) → FieldAt start.args.line.now start.args.starts.now 2 =
+    let placed : FieldAt start.args.line.now start.args.starts.now 2 =
         start.requires.placed 2 (omega arith) (omega (arith, start.requires.counted)) in
     omega (arith, placed.within)
 
@@ -62,7 +62,7 @@ pub returns-then-not-are_bits : goal.returns-then-not-are_bits
 returns-then-not-are_bits c =
     let start : tie.Start =
         c in
-    let placed : ) → FieldAt start.args.line.now start.args.starts.now 2 =
+    let placed : FieldAt start.args.line.now start.args.starts.now 2 =
         start.requires.placed 2 (omega arith) (omega (arith, start.requires.counted)) in
     let bits_of : Bytes =
         field (fields start.args.line.now) 2 in
@@ -80,7 +80,7 @@ pub returns-then-unknown : goal.returns-then-unknown
 returns-then-unknown c =
     let start : tie.Start =
         c in
-    let placed : ) → FieldAt start.args.line.now start.args.starts.now 2 =
+    let placed : FieldAt start.args.line.now start.args.starts.now 2 =
         start.requires.placed 2 (omega arith) (omega (arith, start.requires.counted)) in
     let bits_of : Bytes =
         field (fields start.args.line.now) 2 in
@@ -100,7 +100,7 @@ pub returns : goal.returns
 returns c =
     let start : tie.Start =
         c in
-    let placed : ) → FieldAt start.args.line.now start.args.starts.now 2 =
+    let placed : FieldAt start.args.line.now start.args.starts.now 2 =
         start.requires.placed 2 (omega arith) (omega (arith, start.requires.counted)) in
     let bits_of : Bytes =
         field (fields start.args.line.now) 2 in

@@ -28,7 +28,7 @@ pub overflow_sub-end : goal.overflow_sub-end
 overflow_sub-end c =
     let start : tie.Start =
         c in
-    let placed : ) → FieldAt start.args.line.now start.args.starts.now 4 =
+    let placed : FieldAt start.args.line.now start.args.starts.now 4 =
         start.requires.placed 4 (omega arith) (omega (arith, start.requires.counted)) in
     omega (arith, placed.ordered)
 
@@ -36,7 +36,7 @@ pub slice_bounds-are_bits-count : goal.slice_bounds-are_bits-count
 slice_bounds-are_bits-count c =
     let start : tie.Start =
         c in
-    let placed : ) → FieldAt start.args.line.now start.args.starts.now 4 =
+    let placed : FieldAt start.args.line.now start.args.starts.now 4 =
         start.requires.placed 4 (omega arith) (omega (arith, start.requires.counted)) in
     omega (arith, placed.ordered)
 
@@ -44,7 +44,7 @@ pub slice_bounds-are_bits-start : goal.slice_bounds-are_bits-start
 slice_bounds-are_bits-start c =
     let start : tie.Start =
         c in
-    let placed : ) → FieldAt start.args.line.now start.args.starts.now 4 =
+    let placed : FieldAt start.args.line.now start.args.starts.now 4 =
         start.requires.placed 4 (omega arith) (omega (arith, start.requires.counted)) in
     omega (arith, placed.ordered)
 
@@ -52,7 +52,7 @@ pub slice_bounds-are_bits-end : goal.slice_bounds-are_bits-end
 slice_bounds-are_bits-end c =
     let start : tie.Start =
         c in
-    let placed : ) → FieldAt start.args.line.now start.args.starts.now 4 =
+    let placed : FieldAt start.args.line.now start.args.starts.now 4 =
         start.requires.placed 4 (omega arith) (omega (arith, start.requires.counted)) in
     omega (arith, placed.within)
 
@@ -62,11 +62,11 @@ returns-then-not-are_bits c =
         c in
     let fields_of : List Bytes =
         fields start.args.line.now in
-    let five : ) → length fields_of ≡ 5 =
+    let five : length fields_of ≡ 5 =
         sym start.requires.counted ∙ c.if-count-ne5.false in
-    let placed : ) → FieldAt start.args.line.now start.args.starts.now 4 =
+    let placed : FieldAt start.args.line.now start.args.starts.now 4 =
         start.requires.placed 4 (omega arith) (omega (arith, start.requires.counted)) in
-    let form : ) → bits_form true (field fields_of 4) ≡ c.are_bits.result =
+    let form : bits_form true (field fields_of 4) ≡ c.are_bits.result =
         sym (c.are_bits.ensures ∙ ap (bits_form true) placed.content) in
     plain_line_law _ _ _ _ c.plain-then-not-are_bits.ensures
     (wrong (seg_wrong _ five (form ∙ not-true _ c.if-not-are_bits.true-raw)))
@@ -75,13 +75,13 @@ pub returns : goal.returns
 returns c =
     let start : tie.Start =
         c in
-    let placed : ) → FieldAt start.args.line.now start.args.starts.now 4 =
+    let placed : FieldAt start.args.line.now start.args.starts.now 4 =
         start.requires.placed 4 (omega arith) (omega (arith, start.requires.counted)) in
     let fields_of : List Bytes =
         fields start.args.line.now in
-    let five : ) → length fields_of ≡ 5 =
+    let five : length fields_of ≡ 5 =
         sym start.requires.counted ∙ c.if-count-ne5.false in
-    let form : ) → bits_form true (field fields_of 4) ≡ c.are_bits.result =
+    let form : bits_form true (field fields_of 4) ≡ c.are_bits.result =
         sym (c.are_bits.ensures ∙ ap (bits_form true) placed.content) in
     bits_at_law 4 _ _ _ _ placed
     (seg_reset _ five _ (form ∙ not-false _ c.if-not-are_bits.false-raw) c.segment_of-entry.ensures)

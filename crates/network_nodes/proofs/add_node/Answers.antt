@@ -34,9 +34,9 @@ pub returns-then-is_unfit : goal.returns-then-is_unfit
 returns-then-is_unfit c =
     let start : tie.Start =
         c in
-    let inside : ) → outside max_len start.args.n (node_for start.args.x) ≡ false =
+    let inside : outside max_len start.args.n (node_for start.args.x) ≡ false =
         sym c.is_outside.ensures ∙ c.if-is_outside.false in
-    let unfit : ) → unfit_reset (length start.args.reset.now) (len_of (node_for start.args.x)) ≡ c.is_unfit.result =
+    let unfit : unfit_reset (length start.args.reset.now) (len_of (node_for start.args.x)) ≡ c.is_unfit.result =
         ap (unfit_reset (length start.args.reset.now)) (sym c.bits_of-len.ensures) ∙ sym c.is_unfit.ensures in
     let at-is-unfit = c in
     let at-if2 = at-is-unfit in
@@ -50,9 +50,9 @@ pub returns-then-count-ge-MAX_NODES : goal.returns-then-count-ge-MAX_NODES
 returns-then-count-ge-MAX_NODES c =
     let start : tie.Start =
         c in
-    let inside : ) → outside max_len start.args.n (node_for start.args.x) ≡ false =
+    let inside : outside max_len start.args.n (node_for start.args.x) ≡ false =
         sym c.is_outside.ensures ∙ c.if-is_outside.false in
-    let unfit : ) → unfit_reset (length start.args.reset.now) (len_of (node_for start.args.x)) ≡ c.is_unfit.result =
+    let unfit : unfit_reset (length start.args.reset.now) (len_of (node_for start.args.x)) ≡ c.is_unfit.result =
         ap (unfit_reset (length start.args.reset.now)) (sym c.bits_of-len.ensures) ∙ sym c.is_unfit.ensures in
     let at-if3 = c in
     let at-if2 = at-if3 in
@@ -67,9 +67,9 @@ pub returns-then-total-len : goal.returns-then-total-len
 returns-then-total-len c =
     let start : tie.Start =
         c in
-    let inside : ) → outside max_len start.args.n (node_for start.args.x) ≡ false =
+    let inside : outside max_len start.args.n (node_for start.args.x) ≡ false =
         sym c.is_outside.ensures ∙ c.if-is_outside.false in
-    let unfit : ) → unfit_reset (length start.args.reset.now) (len_of (node_for start.args.x)) ≡ c.is_unfit.result =
+    let unfit : unfit_reset (length start.args.reset.now) (len_of (node_for start.args.x)) ≡ c.is_unfit.result =
         ap (unfit_reset (length start.args.reset.now)) (sym c.bits_of-len.ensures) ∙ sym c.is_unfit.ensures in
     let at-if4 = c in
     let at-if3 = at-if4 in
@@ -94,9 +94,9 @@ pub store_start-requires : goal.store_start-requires
 store_start-requires c =
     let start : tie.Start =
         c in
-    let inside : ) → outside max_len start.args.n (node_for start.args.x) ≡ false =
+    let inside : outside max_len start.args.n (node_for start.args.x) ≡ false =
         sym c.is_outside.ensures ∙ c.if-is_outside.false in
-    let unfit : ) → unfit_reset (length start.args.reset.now) (len_of (node_for start.args.x)) ≡ c.is_unfit.result =
+    let unfit : unfit_reset (length start.args.reset.now) (len_of (node_for start.args.x)) ≡ c.is_unfit.result =
         ap (unfit_reset (length start.args.reset.now)) (sym c.bits_of-len.ensures) ∙ sym c.is_unfit.ensures in
     let at-if4 = c in
     let at-if3 = at-if4 in
@@ -108,9 +108,9 @@ pub returns : goal.returns
 returns c =
     let start : tie.Start =
         c in
-    let inside : ) → outside max_len start.args.n (node_for start.args.x) ≡ false =
+    let inside : outside max_len start.args.n (node_for start.args.x) ≡ false =
         sym c.is_outside.ensures ∙ c.if-is_outside.false in
-    let unfit : ) → unfit_reset (length start.args.reset.now) (len_of (node_for start.args.x)) ≡ c.is_unfit.result =
+    let unfit : unfit_reset (length start.args.reset.now) (len_of (node_for start.args.x)) ≡ c.is_unfit.result =
         ap (unfit_reset (length start.args.reset.now)) (sym c.bits_of-len.ensures) ∙ sym c.is_unfit.ensures in
     let at-store-start = c in
     let at-reset-flag = at-store-start in

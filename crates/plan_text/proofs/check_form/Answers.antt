@@ -25,7 +25,7 @@ returns-in_default c = let w = c in
 
 pub loop-at-smaller : goal.loop-at-smaller
 loop-at-smaller c =
-    let goes_on : ) → Onward c.args.plan.now c.loop-at.n
+    let goes_on : Onward c.args.plan.now c.loop-at.n
     c.loop-at.at c.loop-at.invariant.2 c.in-Next.next =
         form_next _ _ _ _ _ (omega (arith, c.if-n-eq-MAX_OPERATIONS.false))
     (sym (ap line_for c.in-Next.is) ∙ c.line_at-line.ensures) in
@@ -34,7 +34,7 @@ loop-at-smaller c =
 
 pub loop-at-preserved : goal.loop-at-preserved
 loop-at-preserved c =
-    let goes_on : ) → Onward c.args.plan.now c.loop-at.n
+    let goes_on : Onward c.args.plan.now c.loop-at.n
     c.loop-at.at c.loop-at.invariant.2 c.in-Next.next =
         form_next _ _ _ _ _ (omega (arith, c.if-n-eq-MAX_OPERATIONS.false))
     (sym (ap line_for c.in-Next.is) ∙ c.line_at-line.ensures) in

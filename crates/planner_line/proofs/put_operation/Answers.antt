@@ -18,37 +18,37 @@ bounds-way-i c = omega (arith, c.requires.has_room.holds.count)
 
 pub segment_len-len-requires : goal.segment_len-len-requires
 segment_len-len-requires c =
-    let this : ) → let s = c in SegmentOn s.args.nodes.now s.args.way.now s.args.n c.loop-i.i c.wide-s.result =
+    let this : let s = c in SegmentOn s.args.nodes.now s.args.way.now s.args.n c.loop-i.i c.wide-s.result =
         segment_on _ _ _ c.requires.has_room.holds _ _ c.loop-i-test.true c.wide-s.ensures in
     omega (arith, this.below)
 
 pub offset_bounds-steering-s : goal.offset_bounds-steering-s
 offset_bounds-steering-s c =
-    let this : ) → let s = c in SegmentOn s.args.nodes.now s.args.way.now s.args.n c.loop-i.i c.wide-s.result =
+    let this : let s = c in SegmentOn s.args.nodes.now s.args.way.now s.args.n c.loop-i.i c.wide-s.result =
         segment_on _ _ _ c.requires.has_room.holds _ _ c.loop-i-test.true c.wide-s.ensures in
     omega (arith, this.below)
 
 pub bounds-steering-s : goal.bounds-steering-s
 bounds-steering-s c =
-    let this : ) → let s = c in SegmentOn s.args.nodes.now s.args.way.now s.args.n c.loop-i.i c.wide-s.result =
+    let this : let s = c in SegmentOn s.args.nodes.now s.args.way.now s.args.n c.loop-i.i c.wide-s.result =
         segment_on _ _ _ c.requires.has_room.holds _ _ c.loop-i-test.true c.wide-s.ensures in
     omega (arith, this.below)
 
 pub offset_bounds-wants-s : goal.offset_bounds-wants-s
 offset_bounds-wants-s c =
-    let this : ) → let s = c in SegmentOn s.args.nodes.now s.args.way.now s.args.n c.loop-i.i c.wide-s.result =
+    let this : let s = c in SegmentOn s.args.nodes.now s.args.way.now s.args.n c.loop-i.i c.wide-s.result =
         segment_on _ _ _ c.requires.has_room.holds _ _ c.loop-i-test.true c.wide-s.ensures in
     omega (arith, this.below)
 
 pub bounds-wants-s : goal.bounds-wants-s
 bounds-wants-s c =
-    let this : ) → let s = c in SegmentOn s.args.nodes.now s.args.way.now s.args.n c.loop-i.i c.wide-s.result =
+    let this : let s = c in SegmentOn s.args.nodes.now s.args.way.now s.args.n c.loop-i.i c.wide-s.result =
         segment_on _ _ _ c.requires.has_room.holds _ _ c.loop-i-test.true c.wide-s.ensures in
     omega (arith, this.below)
 
 pub put_segment-left-requires : goal.put_segment-left-requires
 put_segment-left-requires c =
-    let this : ) → let s = c in SegmentOn s.args.nodes.now s.args.way.now s.args.n c.loop-i.i c.wide-s.result =
+    let this : let s = c in SegmentOn s.args.nodes.now s.args.way.now s.args.n c.loop-i.i c.wide-s.result =
         segment_on _ _ _ c.requires.has_room.holds _ _ c.loop-i-test.true c.wide-s.ensures in
     let w = c in
     let l = w in
@@ -58,7 +58,7 @@ put_segment-left-requires c =
 
 pub overflow_add-place : goal.overflow_add-place
 overflow_add-place c =
-    let this : ) → let s = c in SegmentOn s.args.nodes.now s.args.way.now s.args.n c.loop-i.i c.wide-s.result =
+    let this : let s = c in SegmentOn s.args.nodes.now s.args.way.now s.args.n c.loop-i.i c.wide-s.result =
         segment_on _ _ _ c.requires.has_room.holds _ _ c.loop-i-test.true c.wide-s.ensures in
     let w = c in
     let l = w in
@@ -66,7 +66,7 @@ overflow_add-place c =
 
 pub loop-i-preserved : goal.loop-i-preserved
 loop-i-preserved c =
-    let this : ) → let s = c in SegmentOn s.args.nodes.now s.args.way.now s.args.n c.loop-i.i c.wide-s.result =
+    let this : let s = c in SegmentOn s.args.nodes.now s.args.way.now s.args.n c.loop-i.i c.wide-s.result =
         segment_on _ _ _ c.requires.has_room.holds _ _ c.loop-i-test.true c.wide-s.ensures in
     let len = c in
     let w = len in

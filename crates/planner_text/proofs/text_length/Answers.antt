@@ -23,7 +23,7 @@ number-requires c = let l = c in
 
 pub overflow_add-sum : goal.overflow_add-sum
 overflow_add-sum c =
-    let line-fits : ) → c.loop-i.sum + (5 + c.number.result) ≤ 64080 =
+    let line-fits : c.loop-i.sum + (5 + c.number.result) ≤ 64080 =
         let row = c.know_row.ensures in
     let test = c in
     counting_fits test.loop-i.invariant.1 test.loop-i-test.true row.0 row.1 c.number.ensures test.requires.countable.2 in
@@ -31,7 +31,7 @@ overflow_add-sum c =
 
 pub overflow_add-sum-in-loop-i : goal.overflow_add-sum-in-loop-i
 overflow_add-sum-in-loop-i c =
-    let line-fits : ) → c.loop-i.sum + (5 + c.number.result) ≤ 64080 =
+    let line-fits : c.loop-i.sum + (5 + c.number.result) ≤ 64080 =
         let row = c.know_row.ensures in
     let test = c in
     counting_fits test.loop-i.invariant.1 test.loop-i-test.true row.0 row.1 c.number.ensures test.requires.countable.2 in

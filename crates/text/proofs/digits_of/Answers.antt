@@ -29,23 +29,23 @@ returns-in_default c = digits_next _ _ _ _ c.loop-i.invariant.2 none c.loop-i-te
 
 pub overflow_mul-v : goal.overflow_mul-v
 overflow_mul-v c =
-    let value-small : ) → c.loop-i.v ≤ 9999 =
+    let value-small : c.loop-i.v ≤ 9999 =
         ten_small _ c.loop-i.i c.loop-i.invariant.1 (omega arith) in
     omega (arith, value-small)
 
 pub overflow_add-v : goal.overflow_add-v
 overflow_add-v c =
-    let digit-le : ) → c.in-Digit.d ≤ 9 =
+    let digit-le : c.in-Digit.d ≤ 9 =
         class_small _ _ _ c.class_of-class.ensures c.in-Digit.is in
-    let value-small : ) → c.loop-i.v ≤ 9999 =
+    let value-small : c.loop-i.v ≤ 9999 =
         ten_small _ c.loop-i.i c.loop-i.invariant.1 (omega arith) in
     omega (arith, value-small, digit-le)
 
 pub loop-i-preserved : goal.loop-i-preserved
 loop-i-preserved c =
-    let digit-le : ) → c.in-Digit.d ≤ 9 =
+    let digit-le : c.in-Digit.d ≤ 9 =
         class_small _ _ _ c.class_of-class.ensures c.in-Digit.is in
-    let digit-known : ) → digit (get_or c.args.f.now c.loop-i.i 0)
+    let digit-known : digit (get_or c.args.f.now c.loop-i.i 0)
     ≡ some c.in-Digit.d =
         class_digit _ _ c.class_of-class.ensures ∙ ap digit_in c.in-Digit.is in
     let l = c.loop-i in

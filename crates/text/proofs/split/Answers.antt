@@ -17,7 +17,7 @@ end_of-end-requires c = c.loop-count.invariant.within
 
 pub returns-then-end-line : goal.returns-then-end-line
 returns-then-end-line c =
-    let at-closed : ) → Closed c.args.line.now c.if-count-lt8.starts (c.loop-count.count + 1) c.end_of-end.result =
+    let at-closed : Closed c.args.line.now c.if-count-lt8.starts (c.loop-count.count + 1) c.end_of-end.result =
         let o = c.loop-count.invariant in
     let e = c.end_of-end.ensures in
     ⊎_elim (λ w. closed_noted _ _ _ _ _ _ o e w.0.taken w.1) (λ w. closed_past _ _ _ _ _ _ o e w.0.left w.1)
@@ -26,7 +26,7 @@ returns-then-end-line c =
 
 pub loop-count-preserved : goal.loop-count-preserved
 loop-count-preserved c =
-    let at-closed : ) → Closed c.args.line.now c.if-count-lt8.starts (c.loop-count.count + 1) c.end_of-end.result =
+    let at-closed : Closed c.args.line.now c.if-count-lt8.starts (c.loop-count.count + 1) c.end_of-end.result =
         let o = c.loop-count.invariant in
     let e = c.end_of-end.ensures in
     ⊎_elim (λ w. closed_noted _ _ _ _ _ _ o e w.0.taken w.1) (λ w. closed_past _ _ _ _ _ _ o e w.0.left w.1)

@@ -16,49 +16,49 @@ narrow-requires-in-Segment c = let p = rw c.in-Segment.is at c.requires in p.1
 
 pub narrow-requires-in-Multiplexer : goal.narrow-requires-in-Multiplexer
 narrow-requires-in-Multiplexer c =
-    let small : ) → SmallNode (Multiplexer c.in-Multiplexer.seg c.in-Multiplexer.bit c.in-Multiplexer.count c.in-Multiplexer.a
+    let small : SmallNode (Multiplexer c.in-Multiplexer.seg c.in-Multiplexer.bit c.in-Multiplexer.count c.in-Multiplexer.a
     c.in-Multiplexer.b c.in-Multiplexer.c c.in-Multiplexer.d) =
         rw c.in-Multiplexer.is at c.requires in
     omega (arith, small.3)
 
 pub narrow-requires-in-Multiplexer-2 : goal.narrow-requires-in-Multiplexer-2
 narrow-requires-in-Multiplexer-2 c =
-    let small : ) → SmallNode (Multiplexer c.in-Multiplexer.seg c.in-Multiplexer.bit c.in-Multiplexer.count c.in-Multiplexer.a
+    let small : SmallNode (Multiplexer c.in-Multiplexer.seg c.in-Multiplexer.bit c.in-Multiplexer.count c.in-Multiplexer.a
     c.in-Multiplexer.b c.in-Multiplexer.c c.in-Multiplexer.d) =
         rw c.in-Multiplexer.is at c.requires in
     small.0
 
 pub narrow-requires-in-Multiplexer-3 : goal.narrow-requires-in-Multiplexer-3
 narrow-requires-in-Multiplexer-3 c =
-    let small : ) → SmallNode (Multiplexer c.in-Multiplexer.seg c.in-Multiplexer.bit c.in-Multiplexer.count c.in-Multiplexer.a
+    let small : SmallNode (Multiplexer c.in-Multiplexer.seg c.in-Multiplexer.bit c.in-Multiplexer.count c.in-Multiplexer.a
     c.in-Multiplexer.b c.in-Multiplexer.c c.in-Multiplexer.d) =
         rw c.in-Multiplexer.is at c.requires in
     small.1
 
 pub narrow-requires-in-Multiplexer-4 : goal.narrow-requires-in-Multiplexer-4
 narrow-requires-in-Multiplexer-4 c =
-    let small : ) → SmallNode (Multiplexer c.in-Multiplexer.seg c.in-Multiplexer.bit c.in-Multiplexer.count c.in-Multiplexer.a
+    let small : SmallNode (Multiplexer c.in-Multiplexer.seg c.in-Multiplexer.bit c.in-Multiplexer.count c.in-Multiplexer.a
     c.in-Multiplexer.b c.in-Multiplexer.c c.in-Multiplexer.d) =
         rw c.in-Multiplexer.is at c.requires in
     small.4
 
 pub narrow-requires-in-Multiplexer-5 : goal.narrow-requires-in-Multiplexer-5
 narrow-requires-in-Multiplexer-5 c =
-    let small : ) → SmallNode (Multiplexer c.in-Multiplexer.seg c.in-Multiplexer.bit c.in-Multiplexer.count c.in-Multiplexer.a
+    let small : SmallNode (Multiplexer c.in-Multiplexer.seg c.in-Multiplexer.bit c.in-Multiplexer.count c.in-Multiplexer.a
     c.in-Multiplexer.b c.in-Multiplexer.c c.in-Multiplexer.d) =
         rw c.in-Multiplexer.is at c.requires in
     small.5
 
 pub input_if-requires : goal.input_if-requires
 input_if-requires c =
-    let small : ) → SmallNode (Multiplexer c.in-Multiplexer.seg c.in-Multiplexer.bit c.in-Multiplexer.count c.in-Multiplexer.a
+    let small : SmallNode (Multiplexer c.in-Multiplexer.seg c.in-Multiplexer.bit c.in-Multiplexer.count c.in-Multiplexer.a
     c.in-Multiplexer.b c.in-Multiplexer.c c.in-Multiplexer.d) =
         rw c.in-Multiplexer.is at c.requires in
     small.6
 
 pub input_if-requires-in-Multiplexer : goal.input_if-requires-in-Multiplexer
 input_if-requires-in-Multiplexer c =
-    let small : ) → SmallNode (Multiplexer c.in-Multiplexer.seg c.in-Multiplexer.bit c.in-Multiplexer.count c.in-Multiplexer.a
+    let small : SmallNode (Multiplexer c.in-Multiplexer.seg c.in-Multiplexer.bit c.in-Multiplexer.count c.in-Multiplexer.a
     c.in-Multiplexer.b c.in-Multiplexer.c c.in-Multiplexer.d) =
         rw c.in-Multiplexer.is at c.requires in
     small.7
@@ -70,7 +70,7 @@ returns-in-Segment c = let at-flag-of = c in
 
 pub returns-in-Multiplexer : goal.returns-in-Multiplexer
 returns-in-Multiplexer c =
-    let small : ) → SmallNode (Multiplexer c.in-Multiplexer.seg c.in-Multiplexer.bit c.in-Multiplexer.count c.in-Multiplexer.a
+    let small : SmallNode (Multiplexer c.in-Multiplexer.seg c.in-Multiplexer.bit c.in-Multiplexer.count c.in-Multiplexer.a
     c.in-Multiplexer.b c.in-Multiplexer.c c.in-Multiplexer.d) =
         rw c.in-Multiplexer.is at c.requires in
     let at-narrow7 = c in

@@ -14,7 +14,7 @@ returns-then-kind-lt2 c = let a = c.args in
 
 pub returns-then-seg-lt1 : goal.returns-then-seg-lt1
 returns-then-seg-lt1 c =
-    let mux : ) → 2 ≤ field_at c.args.nodes.now c.args.k 0 =
+    let mux : 2 ≤ field_at c.args.nodes.now c.args.k 0 =
         omega (arith, c.field-kind.ensures) in
     let at-if1 = c in
     let a = at-if1.args in
@@ -22,7 +22,7 @@ returns-then-seg-lt1 c =
 
 pub returns-then-count-seg : goal.returns-then-count-seg
 returns-then-count-seg c =
-    let mux : ) → 2 ≤ field_at c.args.nodes.now c.args.k 0 =
+    let mux : 2 ≤ field_at c.args.nodes.now c.args.k 0 =
         omega (arith, c.field-kind.ensures) in
     let at-field2 = c in
     let at-if1 = at-field2 in
@@ -31,17 +31,17 @@ returns-then-count-seg c =
 
 pub returns-then-field-ne1 : goal.returns-then-field-ne1
 returns-then-field-ne1 c =
-    let mux : ) → 2 ≤ field_at c.args.nodes.now c.args.k 0 =
+    let mux : 2 ≤ field_at c.args.nodes.now c.args.k 0 =
         omega (arith, c.field-kind.ensures) in
     let start : tie.Start =
         c in
-    let low : ) → 1 ≤ field_at start.args.nodes.now start.args.k 1 =
+    let low : 1 ≤ field_at start.args.nodes.now start.args.k 1 =
         omega (arith, c.field-seg.ensures) in
-    let high : ) → field_at start.args.nodes.now start.args.k 1 ≤ start.args.count =
+    let high : field_at start.args.nodes.now start.args.k 1 ≤ start.args.count =
         omega (arith, c.field-seg.ensures) in
     let At : ℕ → ℕ =
         λ i. field_at start.args.nodes.now (field_at start.args.nodes.now start.args.k 1) i in
-    let its-kind : ) → c.field.result ≡ At 0 =
+    let its-kind : c.field.result ≡ At 0 =
         let seg = c in
     c.field.ensures ∙ ap (λ (s : ℕ). field_at (start seg).args.nodes.now s 0) seg.field-seg.ensures in
     let at-if3 = c in
@@ -51,20 +51,20 @@ returns-then-field-ne1 c =
 
 pub returns-then-kind-eq2 : goal.returns-then-kind-eq2
 returns-then-kind-eq2 c =
-    let mux : ) → 2 ≤ field_at c.args.nodes.now c.args.k 0 =
+    let mux : 2 ≤ field_at c.args.nodes.now c.args.k 0 =
         omega (arith, c.field-kind.ensures) in
     let start : tie.Start =
         c in
-    let low : ) → 1 ≤ field_at start.args.nodes.now start.args.k 1 =
+    let low : 1 ≤ field_at start.args.nodes.now start.args.k 1 =
         omega (arith, c.field-seg.ensures) in
-    let high : ) → field_at start.args.nodes.now start.args.k 1 ≤ start.args.count =
+    let high : field_at start.args.nodes.now start.args.k 1 ≤ start.args.count =
         omega (arith, c.field-seg.ensures) in
     let At : ℕ → ℕ =
         λ i. field_at start.args.nodes.now (field_at start.args.nodes.now start.args.k 1) i in
-    let its-kind : ) → c.field.result ≡ At 0 =
+    let its-kind : c.field.result ≡ At 0 =
         let seg = c in
     c.field.ensures ∙ ap (λ (s : ℕ). field_at (start seg).args.nodes.now s 0) seg.field-seg.ensures in
-    let its-len : ) → c.field-len.result ≡ At 2 =
+    let its-len : c.field-len.result ≡ At 2 =
         let seg = c in
     c.field-len.ensures ∙ ap (λ (s : ℕ). field_at (start seg).args.nodes.now s 2) seg.field-seg.ensures in
     let at-field4 = c in
@@ -78,20 +78,20 @@ returns-then-kind-eq2 c =
 
 pub returns-then-len-eq0 : goal.returns-then-len-eq0
 returns-then-len-eq0 c =
-    let mux : ) → 2 ≤ field_at c.args.nodes.now c.args.k 0 =
+    let mux : 2 ≤ field_at c.args.nodes.now c.args.k 0 =
         omega (arith, c.field-kind.ensures) in
     let start : tie.Start =
         c in
-    let low : ) → 1 ≤ field_at start.args.nodes.now start.args.k 1 =
+    let low : 1 ≤ field_at start.args.nodes.now start.args.k 1 =
         omega (arith, c.field-seg.ensures) in
-    let high : ) → field_at start.args.nodes.now start.args.k 1 ≤ start.args.count =
+    let high : field_at start.args.nodes.now start.args.k 1 ≤ start.args.count =
         omega (arith, c.field-seg.ensures) in
     let At : ℕ → ℕ =
         λ i. field_at start.args.nodes.now (field_at start.args.nodes.now start.args.k 1) i in
-    let its-kind : ) → c.field.result ≡ At 0 =
+    let its-kind : c.field.result ≡ At 0 =
         let seg = c in
     c.field.ensures ∙ ap (λ (s : ℕ). field_at (start seg).args.nodes.now s 0) seg.field-seg.ensures in
-    let its-len : ) → c.field-len.result ≡ At 2 =
+    let its-len : c.field-len.result ≡ At 2 =
         let seg = c in
     c.field-len.ensures ∙ ap (λ (s : ℕ). field_at (start seg).args.nodes.now s 2) seg.field-seg.ensures in
     let at-field4 = c in
@@ -104,20 +104,20 @@ returns-then-len-eq0 c =
 
 pub returns : goal.returns
 returns c =
-    let mux : ) → 2 ≤ field_at c.args.nodes.now c.args.k 0 =
+    let mux : 2 ≤ field_at c.args.nodes.now c.args.k 0 =
         omega (arith, c.field-kind.ensures) in
     let start : tie.Start =
         c in
-    let low : ) → 1 ≤ field_at start.args.nodes.now start.args.k 1 =
+    let low : 1 ≤ field_at start.args.nodes.now start.args.k 1 =
         omega (arith, c.field-seg.ensures) in
-    let high : ) → field_at start.args.nodes.now start.args.k 1 ≤ start.args.count =
+    let high : field_at start.args.nodes.now start.args.k 1 ≤ start.args.count =
         omega (arith, c.field-seg.ensures) in
     let At : ℕ → ℕ =
         λ i. field_at start.args.nodes.now (field_at start.args.nodes.now start.args.k 1) i in
-    let its-kind : ) → c.field.result ≡ At 0 =
+    let its-kind : c.field.result ≡ At 0 =
         let seg = c in
     c.field.ensures ∙ ap (λ (s : ℕ). field_at (start seg).args.nodes.now s 0) seg.field-seg.ensures in
-    let its-len : ) → c.field-len.result ≡ At 2 =
+    let its-len : c.field-len.result ≡ At 2 =
         let seg = c in
     c.field-len.ensures ∙ ap (λ (s : ℕ). field_at (start seg).args.nodes.now s 2) seg.field-seg.ensures in
     let at-field5 = c in

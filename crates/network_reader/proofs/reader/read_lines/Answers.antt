@@ -25,7 +25,7 @@ add_line-added-requires c = let s = c.loop-at.invariant.3 in
 
 pub returns-in-Refused : goal.returns-in-Refused
 returns-in-Refused c =
-    let ended : ) → c.end_of-end.result < length c.args.text.now =
+    let ended : c.end_of-end.result < length c.args.text.now =
         search rules in
     let at-add-line = c in
     let at-if1 = at-add-line in
@@ -36,7 +36,7 @@ returns-in-Refused c =
 
 pub loop-at-preserved : goal.loop-at-preserved
 loop-at-preserved c =
-    let ended : ) → c.end_of-end.result < length c.args.text.now =
+    let ended : c.end_of-end.result < length c.args.text.now =
         search rules in
     let at-add-line = c in
     let at-if1 = at-add-line in

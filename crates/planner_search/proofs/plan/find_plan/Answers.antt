@@ -41,11 +41,11 @@ keep_all-requires c =
         a in
     let found : List ℕ =
         c.find_layer-d.new.1.1.1.1.1.1.0 in
-    let long : ) → 11664 ≤ length found =
+    let long : 11664 ≤ length found =
         let z = c.clear in
     let size : length z.new.0 ≡ length began.args.table.now = z.auto.0 in
     omega (arith, size, c.find_layer-d.ensures.table_len_unchanged.0.0, began.requires.1.1.0.0) in
-    let most : ) → c.find_layer-d.result ≤ 16 =
+    let most : c.find_layer-d.result ≤ 16 =
         let q = began.requires.0 in
     (c.find_layer-d.ensures.table_len_unchanged.1 q.0 q.1 (began.requires.1.1.1 q.0 q.1)).most in
     let a = c in
@@ -58,13 +58,13 @@ trace-requires c =
         a in
     let found : List ℕ =
         c.find_layer-d.new.1.1.1.1.1.1.0 in
-    let long : ) → 11664 ≤ length found =
+    let long : 11664 ≤ length found =
         let z = c.clear in
     let size : length z.new.0 ≡ length began.args.table.now = z.auto.0 in
     omega (arith, size, c.find_layer-d.ensures.table_len_unchanged.0.0, began.requires.1.1.0.0) in
-    let pos : ) → 1 ≤ c.find_layer-d.result =
+    let pos : 1 ≤ c.find_layer-d.result =
         let f = c.if-d-eq0.false in omega arith in
-    let most : ) → c.find_layer-d.result ≤ 16 =
+    let most : c.find_layer-d.result ≤ 16 =
         let q = began.requires.0 in
     (c.find_layer-d.ensures.table_len_unchanged.1 q.0 q.1 (began.requires.1.1.1 q.0 q.1)).most in
     let a = c in
@@ -89,7 +89,7 @@ clear-requires-2 c =
         c.find_layer-d.new.1.1.1.1.1.1.0 in
     let began : tie.Start =
         a in
-    let long : ) → 11664 ≤ length found =
+    let long : 11664 ≤ length found =
         let z = c.clear in
     let size : length z.new.0 ≡ length began.args.table.now = z.auto.0 in
     omega (arith, size, c.find_layer-d.ensures.table_len_unchanged.0.0, began.requires.1.1.0.0) in
@@ -104,7 +104,7 @@ returns c =
         a in
     let found : List ℕ =
         c.find_layer-d.new.1.1.1.1.1.1.0 in
-    let pos : ) → 1 ≤ c.find_layer-d.result =
+    let pos : 1 ≤ c.find_layer-d.result =
         let f = c.if-d-eq0.false in omega arith in
     let a = c in
     let p = began a in

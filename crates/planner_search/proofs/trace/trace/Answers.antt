@@ -53,7 +53,7 @@ first_choice-c-requires c = let p = c in
 
 pub bounds-lands-c : goal.bounds-lands-c
 bounds-lands-c c =
-    let chosen : ) → c.first_choice-c.result < c.list_lands-n.result =
+    let chosen : c.first_choice-c.result < c.list_lands-n.result =
         let p = c in
     let l = c.loop-i in
     let k = c.know_row in
@@ -69,7 +69,7 @@ bounds-lands-c c =
 
 pub loop-i-preserved : goal.loop-i-preserved
 loop-i-preserved c =
-    let chosen : ) → c.first_choice-c.result < c.list_lands-n.result =
+    let chosen : c.first_choice-c.result < c.list_lands-n.result =
         let p = c in
     let l = c.loop-i in
     let k = c.know_row in
