@@ -1,11 +1,11 @@
 -- `planner_steering::list_segment` meets its contract. The invariant: the bits listed and the bits to come make the whole.
 -- Assumes nothing.
 use Rattle.planner_steering.proofs.Listing.{Marking, marking_none, marking_room, marking_set, marking_clear, marking_all}
-use mathlib.Core.Logic.{⊎_elim}
 use native.Mathlib.Omega.{arith}
 use Prim.Native.Nat.{◌-◌}
 use borrow.Author.Rules.{rules}
 use Rattle.planner_steering.proofs.list_segment.Goals as goal
+use Rattle.planner_steering.proofs.list_segment.Goals.{then-bit_at-eq1, else-bit_at-eq1}
 
 pub loop-b-init : goal.loop-b-init
 loop-b-init c = marking_none _ _ _ _ _ _ c.requires.1 c.requires.2 c.requires.3
@@ -35,10 +35,10 @@ pub loop-b-preserved : goal.loop-b-preserved
 loop-b-preserved c = let l = c.loop-b.invariant in
     let t = c.loop-b-test.true in
     let e = c.bit_at.ensures in
-    ⊎_elim
-    (λ w. rw (w.1, w.2, w.3) (marking_set _ _ _ _ _ _ _ _ _ _ t l _ e w.0.taken))
-    (λ w. rw (w.1, w.2, w.3) (marking_clear _ _ _ _ _ _ _ _ _ _ t l _ e w.0.left))
-    c.if-bit_at-eq1.branch
+    elim c.if-bit_at-eq1.branch [
+      | then-bit_at-eq1 w ↦ rw (w.segments-is, w.places-is, w.m-is) (marking_set _ _ _ _ _ _ _ _ _ _ t l _ e w.if-bit_at-eq1.true)
+      | else-bit_at-eq1 w ↦ rw (w.segments-is, w.places-is, w.m-is) (marking_clear _ _ _ _ _ _ _ _ _ _ t l _ e w.if-bit_at-eq1.false)
+    ]
 
 pub returns : goal.returns
 returns c = marking_all _ _ _ _ _ _ _ _ _ _ c.loop-b-test.false c.loop-b.invariant
