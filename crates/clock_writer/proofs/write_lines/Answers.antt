@@ -15,56 +15,29 @@ bits_at-bits-requires c = omega (arith, line_within _ _ _ _ _ _ c.loop-at.invari
 
 pub write_tms-requires : goal.write_tms-requires
 write_tms-requires c =
-    let kept : (length c.loop-at.tms ≡ length c.args.tms.now) × (length c.loop-at.tdi ≡ length c.args.tdi.now) =
-        written_kept _ _ _ _ _ _ c.loop-at.invariant c.requires.plan_in_bounds.0 c.requires.plan_in_bounds.1 in
-    let fits : c.loop-at.at + (5 + length c.bits_at-bits.result.now) ≤ length c.args.plan.now =
-        line_within _ _ _ _ _ _ c.loop-at.invariant c.loop-at-test.true _ c.bits_at-bits.ensures in
-    omega (arith, kept.0, fits)
+    let kept = written_kept _ _ _ _ _ _ c.loop-at.invariant c.requires.plan_in_bounds.0 c.requires.plan_in_bounds.1 in
+    omega (arith, kept.0, line_within _ _ _ _ _ _ c.loop-at.invariant c.loop-at-test.true _ c.bits_at-bits.ensures)
 
 pub write_tdi-at-requires : goal.write_tdi-at-requires
 write_tdi-at-requires c =
-    let kept : (length c.loop-at.tms ≡ length c.args.tms.now) × (length c.loop-at.tdi ≡ length c.args.tdi.now) =
-        written_kept _ _ _ _ _ _ c.loop-at.invariant c.requires.plan_in_bounds.0 c.requires.plan_in_bounds.1 in
-    let fits : c.loop-at.at + (5 + length c.bits_at-bits.result.now) ≤ length c.args.plan.now =
-        line_within _ _ _ _ _ _ c.loop-at.invariant c.loop-at-test.true _ c.bits_at-bits.ensures in
-    omega (arith, kept.1, fits)
+    let kept = written_kept _ _ _ _ _ _ c.loop-at.invariant c.requires.plan_in_bounds.0 c.requires.plan_in_bounds.1 in
+    omega (arith, kept.1, line_within _ _ _ _ _ _ c.loop-at.invariant c.loop-at-test.true _ c.bits_at-bits.ensures)
 
 pub loop-at-smaller : goal.loop-at-smaller
 loop-at-smaller c =
-    let line-done : let l = c in
-    let a = l.args in
-    WrittenTo a.plan.now a.tms.now a.tdi.now c.write_tms.new.0 c.write_tdi-at.new.0 c.write_tdi-at.result =
-        let w = c in
-    let l = w in
-    let p = l.requires.plan_in_bounds in
-    written_line _ _ _ _ _ _ l.loop-at.invariant w.loop-at-test.true _ w.bits_at-bits.ensures p.0 p.1 _ _ _
-    w.write_tms.ensures.tms_after c.write_tdi-at.ensures.tdi_after c.write_tdi-at.ensures.value in
-    let w = written_within _ _ _ _ _ _ line-done in
-    omega (arith, c.write_tdi-at.ensures.value)
+    omega (arith, c.write_tdi-at.ensures.value, line_within _ _ _ _ _ _ c.loop-at.invariant c.loop-at-test.true _ c.bits_at-bits.ensures)
 
 pub loop-at-preserved : goal.loop-at-preserved
-loop-at-preserved c =
-    let line-done : let l = c in
-    let a = l.args in
-    WrittenTo a.plan.now a.tms.now a.tdi.now c.write_tms.new.0 c.write_tdi-at.new.0 c.write_tdi-at.result =
-        let w = c in
-    let l = w in
-    let p = l.requires.plan_in_bounds in
-    written_line _ _ _ _ _ _ l.loop-at.invariant w.loop-at-test.true _ w.bits_at-bits.ensures p.0 p.1 _ _ _
-    w.write_tms.ensures.tms_after c.write_tdi-at.ensures.tdi_after c.write_tdi-at.ensures.value in
-    line-done
+loop-at-preserved c = let p = c.requires.plan_in_bounds in
+    written_line _ _ _ _ _ _ c.loop-at.invariant c.loop-at-test.true _ c.bits_at-bits.ensures p.0 p.1 _ _ _
+    c.write_tms.ensures.tms_after c.write_tdi-at.ensures.tdi_after c.write_tdi-at.ensures.value
 
 pub shape_of-tms : goal.shape_of-tms
-shape_of-tms c =
-    let kept : (length c.loop-at.tms ≡ length c.args.tms.now) × (length c.loop-at.tdi ≡ length c.args.tdi.now) =
-        written_kept _ _ _ _ _ _ c.loop-at.invariant c.requires.plan_in_bounds.0 c.requires.plan_in_bounds.1 in
-    kept.0
+shape_of-tms c = (written_kept _ _ _ _ _ _ c.loop-at.invariant c.requires.plan_in_bounds.0 c.requires.plan_in_bounds.1).0
 
 pub shape_of-tdi : goal.shape_of-tdi
-shape_of-tdi c =
-    let kept : (length c.loop-at.tms ≡ length c.args.tms.now) × (length c.loop-at.tdi ≡ length c.args.tdi.now) =
-        written_kept _ _ _ _ _ _ c.loop-at.invariant c.requires.plan_in_bounds.0 c.requires.plan_in_bounds.1 in
-    kept.1
+shape_of-tdi c = (written_kept _ _ _ _ _ _ c.loop-at.invariant c.requires.plan_in_bounds.0 c.requires.plan_in_bounds.1).1
 
 pub returns : goal.returns
-returns c = written_all _ _ _ _ _ _ c.loop-at.invariant c.loop-at-test.false
+returns c = let all = written_all _ _ _ _ _ _ c.loop-at.invariant c.loop-at-test.false in
+    record { tms_after = all.0; tdi_after = all.1 }

@@ -6,12 +6,10 @@ use Rattle.model.specs.Text.{bytes}
 use Rattle.plan_text.proofs.Writing.{write_three}
 use Rattle.clock_writer.proofs.write_tdi.Goals as goal
 
-pub returns : goal.returns
-returns c = let r = c.put in
-    let k = c in
-    let w = k in
-    let a = w.args in (
-      omega (arith, w.put-shift.ensures.value, k.put-exit.ensures.value, r.ensures.0),
-      write_three a.at _ _ (bytes "000") a.bits.now (bytes "00") a.tdi.now (omega arith)
-          w.put-shift.ensures.value w.put-shift.ensures.buf_after k.put-exit.ensures.value k.put-exit.ensures.buf_after r.ensures.1,
-    )
+pub returns-clause-value : goal.returns-clause-value
+returns-clause-value c = omega (arith, c.put-shift.ensures.value, c.put-exit.ensures.value, c.put.ensures.value)
+
+pub returns-clause-tdi_after : goal.returns-clause-tdi_after
+returns-clause-tdi_after c = let a = c.args in
+    write_three a.at _ _ (bytes "000") a.bits.now (bytes "00") a.tdi.now (omega arith)
+    c.put-shift.ensures.value c.put-shift.ensures.buf_after c.put-exit.ensures.value c.put-exit.ensures.buf_after c.put.ensures.buf_after

@@ -13,22 +13,21 @@ use Rattle.clock_writer.specs.Clocks.{tms_bytes}
 use Rattle.clock_writer.proofs.Rows.{tms_some}
 use Rattle.clock_writer.proofs.write_tms.Goals as goal
 
-pub returns-then-n-eq0 : goal.returns-then-n-eq0
-returns-then-n-eq0 c = let a = c.args in
-    let p = c.put in
-    let e = c.if-n-eq0.true in
-    (omega (arith, p.ensures.0), p.ensures.1 ∙ ap (λ (k : ℕ). write_at a.at (tms_bytes k) a.tms.now) (sym e))
+pub returns-then-n-eq0-clause-value : goal.returns-then-n-eq0-clause-value
+returns-then-n-eq0-clause-value c = omega (arith, c.put.ensures.value)
 
-pub returns : goal.returns
-returns c = let r = c.put-2 in
-    let k = c in
-    let w = k in
-    let some-bit = w.if-n-eq0.false in
-    let a = w.args in
+pub returns-then-n-eq0-clause-tms_after : goal.returns-then-n-eq0-clause-tms_after
+returns-then-n-eq0-clause-tms_after c = let a = c.args in
+    c.put.ensures.buf_after ∙ ap (λ (k : ℕ). write_at a.at (tms_bytes k) a.tms.now) (sym c.if-n-eq0.true)
+
+pub returns-clause-value : goal.returns-clause-value
+returns-clause-value c = omega (arith, c.put-shift.ensures.value, c.put_repeated-last.ensures.value, c.put-2.ensures.value)
+
+pub returns-clause-tms_after : goal.returns-clause-tms_after
+returns-clause-tms_after c = let a = c.args in
     let zeros = replicate {A = ℕ} (a.n - 1) 48 in
-    let l : length zeros ≡ a.n - 1 = length-replicate (a.n - 1) 48 in (
-      omega (arith, w.put-shift.ensures.value, k.put_repeated-last.ensures.value, r.ensures.0),
-      write_three a.at _ _ (bytes "100") zeros (bytes "110") a.tms.now (omega arith)
-          w.put-shift.ensures.value w.put-shift.ensures.buf_after (k.put_repeated-last.ensures.value ∙ ap (λ (m : ℕ). w.put-shift.result + m) (sym l)) k.put_repeated-last.ensures.buf_after r.ensures.1
-          ∙ ap (λ (row : List ℕ). write_at a.at row a.tms.now) (sym (tms_some a.n some-bit)),
-    )
+    let l : length zeros ≡ a.n - 1 = length-replicate (a.n - 1) 48 in
+    let last = c.put_repeated-last.ensures.value ∙ ap (λ (m : ℕ). c.put-shift.result + m) (sym l) in
+    write_three a.at _ _ (bytes "100") zeros (bytes "110") a.tms.now (omega arith)
+    c.put-shift.ensures.value c.put-shift.ensures.buf_after last c.put_repeated-last.ensures.buf_after c.put-2.ensures.buf_after
+    ∙ ap (λ (row : List ℕ). write_at a.at row a.tms.now) (sym (tms_some a.n c.if-n-eq0.false))
