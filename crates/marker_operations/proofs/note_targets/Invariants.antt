@@ -1,12 +1,10 @@
 -- `marker_operations::note_targets` meets its contract. The invariant: the targets below i are noted.
 -- Assumes nothing.
 use Prim.Native.Nat.{◌≤◌, ◌-◌}
-use native.Mathlib.Omega.{arith}
 use lib.ListN.{take}
 use Rattle.network_path.specs.Layout.{scan_path}
 use Rattle.marker_operations.specs.Operations.{firsts}
-use Rattle.marker_operations.proofs.Noting.{Noting, noting_none, noting_next}
-use borrow.Author.Rules.{rules}
+use Rattle.marker_operations.proofs.Noting.{Noting}
 use Rattle.marker_operations.proofs.note_targets.Given as goal
 
 abbrev pub invariant-loop-i : goal.invariant-loop-i
