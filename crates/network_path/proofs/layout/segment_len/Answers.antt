@@ -1,7 +1,6 @@
 -- `network_path::layout::segment_len` meets its contract.
 -- Assumes nothing.
 use mathlib.Core.Path.{sym, ap, ◌∙◌}
-use borrow.Author.Rules.{rules}
 use Rattle.model.specs.Network.{len_of}
 use Rattle.network_path.proofs.NodeLaws.{segment_at_law, mux_at}
 use Rattle.network_path.proofs.layout.segment_len.Goals as goal

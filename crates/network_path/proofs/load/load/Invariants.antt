@@ -1,11 +1,7 @@
 -- `network_path::load::load` meets its contract. The loop's invariant: the load of the segments to come gives what the whole load gives.
 -- Assumes nothing.
-use Prim.Native.Nat.{◌+◌, ◌≤◌, ◌-◌}
-use native.Mathlib.Omega.{arith}
-use borrow.Author.Rules.{rules}
-use lib.ListN.{length}
-use Rattle.network_path.proofs.PathLaws.{SegmentOn, segment_on, path_end}
-use Rattle.network_path.proofs.LoadLaws.{Loading, loading_none, part_long, part_fits, loading_more, loading_all}
+use Prim.Native.Nat.{◌≤◌, ◌-◌}
+use Rattle.network_path.proofs.LoadLaws.{Loading}
 use Rattle.network_path.proofs.load.load.Given as goal
 
 abbrev pub invariant-loop-i : goal.invariant-loop-i

@@ -1,9 +1,8 @@
 -- `network_path::places::place_of` meets its contract. The loop's invariant: the bits passed and the place among the segments to come make the place.
 -- Assumes nothing.
-use Prim.Native.Nat.{◌≤◌, ◌-◌}
 use native.Mathlib.Omega.{arith}
 use borrow.Author.Rules.{rules}
-use Rattle.network_path.proofs.PathLaws.{SegmentOn, segment_on, path_end, Passed, passed_none, passed_found, passed_more, passed_all}
+use Rattle.network_path.proofs.PathLaws.{SegmentOn, segment_on, path_end, passed_none, passed_found, passed_more, passed_all}
 use Rattle.network_path.proofs.places.place_of.Goals as goal
 
 pub loop-i-init : goal.loop-i-init
@@ -17,26 +16,26 @@ bounds-way-i c = omega (arith, c.requires.count)
 
 pub returns-then-k-s : goal.returns-then-k-s
 returns-then-k-s c =
-    let this : let s = c in SegmentOn s.args.nodes.now s.args.way.now s.args.n c.loop-i.i c.wide-k.result =
-        segment_on _ _ _ c.requires _ _ c.loop-i-test.true c.wide-k.ensures in
+    let this : SegmentOn c.args.nodes.now c.args.way.now c.args.n c.loop-i.i c.wide-k.result =
+    segment_on _ _ _ c.requires _ _ c.loop-i-test.true c.wide-k.ensures in
     passed_found _ _ _ _ _ _ _ this c.if-k-s.true c.loop-i.invariant.1
 
 pub segment_len-p-requires : goal.segment_len-p-requires
 segment_len-p-requires c =
-    let this : let s = c in SegmentOn s.args.nodes.now s.args.way.now s.args.n c.loop-i.i c.wide-k.result =
-        segment_on _ _ _ c.requires _ _ c.loop-i-test.true c.wide-k.ensures in
+    let this : SegmentOn c.args.nodes.now c.args.way.now c.args.n c.loop-i.i c.wide-k.result =
+    segment_on _ _ _ c.requires _ _ c.loop-i-test.true c.wide-k.ensures in
     omega (arith, this.below)
 
 pub overflow_add-p : goal.overflow_add-p
 overflow_add-p c =
-    let this : let s = c in SegmentOn s.args.nodes.now s.args.way.now s.args.n c.loop-i.i c.wide-k.result =
-        segment_on _ _ _ c.requires _ _ c.loop-i-test.true c.wide-k.ensures in
+    let this : SegmentOn c.args.nodes.now c.args.way.now c.args.n c.loop-i.i c.wide-k.result =
+    segment_on _ _ _ c.requires _ _ c.loop-i-test.true c.wide-k.ensures in
     omega (arith, this.most, c.segment_len-p.ensures, c.requires.count)
 
 pub loop-i-preserved : goal.loop-i-preserved
 loop-i-preserved c =
-    let this : let s = c in SegmentOn s.args.nodes.now s.args.way.now s.args.n c.loop-i.i c.wide-k.result =
-        segment_on _ _ _ c.requires _ _ c.loop-i-test.true c.wide-k.ensures in
+    let this : SegmentOn c.args.nodes.now c.args.way.now c.args.n c.loop-i.i c.wide-k.result =
+    segment_on _ _ _ c.requires _ _ c.loop-i-test.true c.wide-k.ensures in
     (search rules, passed_more _ _ _ _ _ _ _ _ this c.if-k-s.false c.segment_len-p.ensures c.loop-i.invariant.1)
 
 pub returns : goal.returns

@@ -1,9 +1,7 @@
 -- `network_path::places::place_of` meets its contract. The loop's invariant: the bits passed and the place among the segments to come make the place.
 -- Assumes nothing.
 use Prim.Native.Nat.{◌≤◌, ◌-◌}
-use native.Mathlib.Omega.{arith}
-use borrow.Author.Rules.{rules}
-use Rattle.network_path.proofs.PathLaws.{SegmentOn, segment_on, path_end, Passed, passed_none, passed_found, passed_more, passed_all}
+use Rattle.network_path.proofs.PathLaws.{Passed}
 use Rattle.network_path.proofs.places.place_of.Given as goal
 
 abbrev pub invariant-loop-i : goal.invariant-loop-i

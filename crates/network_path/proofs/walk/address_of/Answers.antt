@@ -1,6 +1,5 @@
 -- `network_path::walk::address_of` meets its contract.
 -- Assumes nothing.
-use borrow.Author.Rules.{rules}
 use Rattle.network_path.proofs.StepLaws.{unknown_one, known_one, unknown_two, known_two}
 use Rattle.network_path.proofs.walk.address_of.Goals as goal
 

@@ -1,6 +1,5 @@
 -- `network_path::walk::answer_of` meets its contract.
 -- Assumes nothing.
-use borrow.Author.Rules.{rules}
 use Rattle.network_path.proofs.WalkNumbers.{path_number, beyond_number}
 use Rattle.network_path.proofs.walk.answer_of.Goals as goal
 

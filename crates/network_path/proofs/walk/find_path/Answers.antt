@@ -1,6 +1,5 @@
 -- `network_path::walk::find_path` meets its contract.
 -- Assumes nothing.
-use borrow.Author.Rules.{rules}
 use Rattle.network_path.proofs.PathLaws.{found}
 use Rattle.network_path.proofs.walk.find_path.Goals as goal
 

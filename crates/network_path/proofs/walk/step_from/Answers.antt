@@ -3,7 +3,6 @@
 use mathlib.Core.Path.{ap}
 use Prim.Native.Nat.{◌<◌, ◌≤◌}
 use native.Mathlib.Omega.{arith}
-use borrow.Author.Rules.{rules}
 use Rattle.network_words.specs.Words.{word_width}
 use Rattle.network_path.specs.Layout.{field_at, node_at, look_in}
 use Rattle.network_path.specs.Answers.{addressed, step_of}
@@ -19,57 +18,55 @@ pub offset_bounds-bits-seg : goal.offset_bounds-bits-seg
 offset_bounds-bits-seg c =
     let safe : (field_at c.args.nodes.now c.args.at 1 < 129)
     × (field_at c.args.nodes.now c.args.at 2 < word_width) × (c.field-kind.result ≤ 4) =
-        safe_mux _ _ _ c.field-kind.ensures c.if-kind-lt2.false c.requires.1 in
+    safe_mux _ _ _ c.field-kind.ensures c.if-kind-lt2.false c.requires.1 in
     omega (arith, safe.0, c.field-seg.ensures)
 
 pub bounds-bits-seg : goal.bounds-bits-seg
 bounds-bits-seg c =
     let safe : (field_at c.args.nodes.now c.args.at 1 < 129)
     × (field_at c.args.nodes.now c.args.at 2 < word_width) × (c.field-kind.result ≤ 4) =
-        safe_mux _ _ _ c.field-kind.ensures c.if-kind-lt2.false c.requires.1 in
+    safe_mux _ _ _ c.field-kind.ensures c.if-kind-lt2.false c.requires.1 in
     omega (arith, safe.0, c.field-seg.ensures)
 
 pub offset_bounds-known-seg : goal.offset_bounds-known-seg
 offset_bounds-known-seg c =
     let safe : (field_at c.args.nodes.now c.args.at 1 < 129)
     × (field_at c.args.nodes.now c.args.at 2 < word_width) × (c.field-kind.result ≤ 4) =
-        safe_mux _ _ _ c.field-kind.ensures c.if-kind-lt2.false c.requires.1 in
+    safe_mux _ _ _ c.field-kind.ensures c.if-kind-lt2.false c.requires.1 in
     omega (arith, safe.0, c.field-seg.ensures)
 
 pub bounds-known-seg : goal.bounds-known-seg
 bounds-known-seg c =
     let safe : (field_at c.args.nodes.now c.args.at 1 < 129)
     × (field_at c.args.nodes.now c.args.at 2 < word_width) × (c.field-kind.result ≤ 4) =
-        safe_mux _ _ _ c.field-kind.ensures c.if-kind-lt2.false c.requires.1 in
+    safe_mux _ _ _ c.field-kind.ensures c.if-kind-lt2.false c.requires.1 in
     omega (arith, safe.0, c.field-seg.ensures)
 
 pub address_of-requires : goal.address_of-requires
 address_of-requires c =
     let safe : (field_at c.args.nodes.now c.args.at 1 < 129)
     × (field_at c.args.nodes.now c.args.at 2 < word_width) × (c.field-kind.result ≤ 4) =
-        safe_mux _ _ _ c.field-kind.ensures c.if-kind-lt2.false c.requires.1 in
+    safe_mux _ _ _ c.field-kind.ensures c.if-kind-lt2.false c.requires.1 in
     omega (arith, safe.1, c.field-bit.ensures)
 
 pub overflow_add-i : goal.overflow_add-i
 overflow_add-i c =
     let safe : (field_at c.args.nodes.now c.args.at 1 < 129)
     × (field_at c.args.nodes.now c.args.at 2 < word_width) × (c.field-kind.result ≤ 4) =
-        safe_mux _ _ _ c.field-kind.ensures c.if-kind-lt2.false c.requires.1 in
+    safe_mux _ _ _ c.field-kind.ensures c.if-kind-lt2.false c.requires.1 in
     omega (arith, safe.2)
 
 pub field-requires-then-i-kind : goal.field-requires-then-i-kind
 field-requires-then-i-kind c =
     let safe : (field_at c.args.nodes.now c.args.at 1 < 129)
     × (field_at c.args.nodes.now c.args.at 2 < word_width) × (c.field-kind.result ≤ 4) =
-        safe_mux _ _ _ c.field-kind.ensures c.if-kind-lt2.false c.requires.1 in
+    safe_mux _ _ _ c.field-kind.ensures c.if-kind-lt2.false c.requires.1 in
     let s = safe in (omega arith, omega (arith, s.2))
 
 pub returns-then-i-kind : goal.returns-then-i-kind
 returns-then-i-kind c =
-    let mux : let a = c.args in
-    MuxStep a.nodes.now a.at c.field-kind.result (addressed c.address_of.result)
-    (step_of (look_in a.bits.now a.known.now) (node_at a.nodes.now a.at)) =
-        let e = c in
+    let mux : MuxStep c.args.nodes.now c.args.at c.field-kind.result (addressed c.address_of.result) (step_of (look_in c.args.bits.now c.args.known.now) (node_at c.args.nodes.now c.args.at)) =
+    let e = c in
     let a = e.args in
     step_mux _ a.bits.now a.known.now _ _ e.field-kind.ensures e.if-kind-lt2.false _ _ c.field-seg.ensures
     c.field-bit.ensures _ c.address_of.ensures in
@@ -77,10 +74,8 @@ returns-then-i-kind c =
 
 pub returns-else-i-kind : goal.returns-else-i-kind
 returns-else-i-kind c =
-    let mux : let a = c.args in
-    MuxStep a.nodes.now a.at c.field-kind.result (addressed c.address_of.result)
-    (step_of (look_in a.bits.now a.known.now) (node_at a.nodes.now a.at)) =
-        let e = c in
+    let mux : MuxStep c.args.nodes.now c.args.at c.field-kind.result (addressed c.address_of.result) (step_of (look_in c.args.bits.now c.args.known.now) (node_at c.args.nodes.now c.args.at)) =
+    let e = c in
     let a = e.args in
     step_mux _ a.bits.now a.known.now _ _ e.field-kind.ensures e.if-kind-lt2.false _ _ c.field-seg.ensures
     c.field-bit.ensures _ c.address_of.ensures in
@@ -88,10 +83,8 @@ returns-else-i-kind c =
 
 pub returns-in-Unknown : goal.returns-in-Unknown
 returns-in-Unknown c =
-    let mux : let a = c.args in
-    MuxStep a.nodes.now a.at c.field-kind.result (addressed c.address_of.result)
-    (step_of (look_in a.bits.now a.known.now) (node_at a.nodes.now a.at)) =
-        let e = c in
+    let mux : MuxStep c.args.nodes.now c.args.at c.field-kind.result (addressed c.address_of.result) (step_of (look_in c.args.bits.now c.args.known.now) (node_at c.args.nodes.now c.args.at)) =
+    let e = c in
     let a = e.args in
     step_mux _ a.bits.now a.known.now _ _ e.field-kind.ensures e.if-kind-lt2.false _ _ c.field-seg.ensures
     c.field-bit.ensures _ c.address_of.ensures in
