@@ -1,14 +1,11 @@
 -- `text::all_bits` meets its contract. The loop's invariant: all bytes are bits just if `all` says so of the first i and those from i on are.
 -- Assumes nothing.
-use mathlib.Core.Path.{◌≡◌, sym, ap, ◌∙◌}
-use mathlib.Core.Bool.{Bool, ◌&&◌}
-use mathlib.Core.Logic.{⊎_elim}
-use Prim.Native.Nat.{◌+◌, ◌-◌, ◌≤◌}
+use mathlib.Core.Path.{◌≡◌}
+use mathlib.Core.Bool.{◌&&◌}
+use Prim.Native.Nat.{◌-◌, ◌≤◌}
 use lib.ListN.{length, drop}
-use borrow.Author.Rules.{rules}
-use borrow.Author.Tests.{not-true, not-false}
 use Rattle.text.specs.Bits.{is_bit, all_bits}
-use Rattle.text.proofs.Bits.{every, every_end, every_on, every_stop, all_every}
+use Rattle.text.proofs.Bits.{every}
 use Rattle.text.proofs.all_bits.Given as goal
 
 abbrev pub invariant-loop-i : goal.invariant-loop-i

@@ -1,7 +1,6 @@
 -- `text::are_bits` meets its contract.
 -- Assumes nothing.
 use mathlib.Core.Path.{◌∙◌}
-use borrow.Author.Rules.{rules}
 use Rattle.text.proofs.Bits.{form_empty, form_all}
 use Rattle.text.proofs.are_bits.Goals as goal
 

@@ -1,10 +1,10 @@
 -- `text::decimal_of` meets its contract, test by test.
 -- Assumes nothing.
-use mathlib.Core.Logic.{⊎_elim}
-use mathlib.Core.Path.{sym, ◌∙◌}
-use borrow.Author.Rules.{rules}
+use mathlib.Core.Path.{◌≡◌, sym, ◌∙◌}
 use Rattle.text.proofs.Decimals.{decimal_empty, decimal_long, decimal_zero, decimal_digits, decimal_digit, is_decimal}
 use Rattle.text.proofs.decimal_of.Goals as goal
+use Rattle.text.proofs.decimal_of.Goals.{then-n-gt1+else-f-eq48, else-n-gt1}
+use Rattle.model.specs.Text.{decimal, digits_from}
 
 pub returns-then-n-eq0 : goal.returns-then-n-eq0
 returns-then-n-eq0 c = is_decimal _ _ (decimal_empty _ c.if-n-eq0.true)
@@ -17,8 +17,13 @@ returns-then-f-eq48 c = is_decimal _ _
     (decimal_zero _ c.if-n-eq0.false c.if-n-gt4.false c.if-n-gt1.true c.if-f-eq48.true)
 
 pub returns : goal.returns
-returns c = let p = c.if-n-eq0.false in
+returns c =
+    let p = c.if-n-eq0.false in
     let q = c.if-n-gt4.false in
-    is_decimal _ _
-    (c.digits_of.ensures
-    ∙ sym (⊎_elim (λ w. decimal_digits _ p q w.0.taken w.2.left) (λ w. decimal_digit _ p q w.left) c.if-n-gt1.branch))
+    let d : decimal c.args.f.now ≡ digits_from 0 c.args.f.now =
+    elim c.if-n-gt1.branch [
+      | then-n-gt1+else-f-eq48 w ↦ decimal_digits _ p q w.if-n-gt1.true w.if-f-eq48.false
+      | else-n-gt1 w ↦ decimal_digit _ p q w.if-n-gt1.false
+    ]
+    in
+    is_decimal _ _ (c.digits_of.ensures ∙ sym d)

@@ -1,19 +1,9 @@
 -- `text::digits_of` meets its contract. The loop's invariant: the digits from i on, behind v, give the field's number, and v is
 -- below 10 ^ i. Assumes nothing.
-use mathlib.Core.Option.{some, none}
-use mathlib.Core.Path.{◌≡◌, refl, ap, ◌∙◌}
-use mathlib.Core.List.{[], ◌∷◌}
+use mathlib.Core.Path.{◌≡◌}
 use Prim.Native.Nat.{◌-◌, ◌^◌, ◌≤◌, ◌<◌}
-use native.Mathlib.Omega.{arith}
-use lib.ListN.{get_or, length, drop}
-use types.Run.{OneOf, miss}
-use denote.Enum.Declared.{tag_of}
-use borrow.Author.Rules.{rules}
-use Rattle.model.specs.Text.{digit, digits_from}
-use Rattle.text.specs.declared.Class.{Class}
-use Rattle.text.specs.declared.Class.TheVariants.{Digit, Tab, LineEnd, Other}
-use Rattle.text.specs.contracts.Class.{the_type}
-use Rattle.text.proofs.Decimals.{digit_in, class_digit, class_small, digits_end, digits_next, ten_step, ten_small}
+use lib.ListN.{length, drop}
+use Rattle.model.specs.Text.{digits_from}
 use Rattle.text.proofs.digits_of.Given as goal
 
 abbrev pub invariant-loop-i : goal.invariant-loop-i

@@ -1,10 +1,6 @@
 -- `text::end_of` meets its contract. The loop's invariant: the first separator from i on is the one from `at` on.
 -- Assumes nothing.
-use mathlib.Core.Path.{◌≡◌, refl}
-use Prim.Native.Nat.{◌+◌, ◌-◌, ◌≤◌}
-use lib.ListN.{length, drop}
 use borrow.Author.Rules.{rules}
-use Rattle.text.specs.Places.{bytes_before}
 use Rattle.text.proofs.Parts.{scan_end, scan_hit, scan_miss}
 use Rattle.text.proofs.end_of.Goals as goal
 

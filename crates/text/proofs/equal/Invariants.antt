@@ -1,14 +1,9 @@
 -- `text::equal` meets its contract. The loop's invariant: the strings are the same just if they are from i on.
 -- Assumes nothing.
-use mathlib.Core.Path.{◌≡◌, refl, sym}
-use mathlib.Core.Bool.{true, false}
+use mathlib.Core.Path.{◌≡◌}
 use Prim.Native.Nat.{◌-◌, ◌≤◌}
-use native.Mathlib.Omega.{arith}
 use lib.ListN.{drop}
-use borrow.Author.Rules.{rules}
-use borrow.Author.Tests.{eq-eqb, ne_eqb}
 use Rattle.model.specs.Text.{same}
-use Rattle.text.proofs.Words.{same_end, same_next, same_length}
 use Rattle.text.proofs.equal.Given as goal
 
 abbrev pub invariant-loop-i : goal.invariant-loop-i

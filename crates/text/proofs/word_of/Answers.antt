@@ -2,15 +2,21 @@
 -- Assumes nothing.
 use mathlib.Core.Bool.{true, false}
 use mathlib.Core.Path.{◌≡◌, sym, ◌∙◌}
+use mathlib.Core.List.{[]}
+use mathlib.Core.Option.{none}
 use Prim.Native.Nat.{ℕ}
 use lib.ListN.{drop}
-use borrow.Author.Rules.{rules}
 use Rattle.model.specs.Text.{Bytes, word_of}
 use Rattle.text.proofs.Words.{first_of, words, word_first, word_next}
 use Rattle.text.proofs.word_of.Goals as goal
 
 abbrev Left : ℕ → Type 0
 Left k = (f : Bytes) × (first_of (drop k words) f ≡ word_of f)
+
+-- no word is left
+no_word : (f : Bytes) → first_of [] f ≡ word_of f → none ≡ word_of f
+unfolding first_of
+no_word f e = e
 
 pub returns-then-equal : goal.returns-then-equal
 returns-then-equal c = word_next _ _ _ _ (word_first _) true (sym c.equal.ensures ∙ c.if-equal.true)
@@ -82,7 +88,6 @@ returns-then-equal-7 c =
     word_next _ _ _ _ past6.1 true (sym c.equal-7.ensures ∙ c.if-equal-7.true)
 
 pub returns : goal.returns
-unfolding first_of
 returns c =
     let past1 : Left 1 =
     (_, word_next _ _ _ _ (word_first _) false (sym c.equal.ensures ∙ c.if-equal.false)) in
@@ -98,4 +103,4 @@ returns c =
     (_, word_next _ _ _ _ past5.1 false (sym c.equal-6.ensures ∙ c.if-equal-6.false)) in
     let past7 : Left 7 =
     (_, word_next _ _ _ _ past6.1 false (sym c.equal-7.ensures ∙ c.if-equal-7.false)) in
-    past7.1
+    no_word _ past7.1
