@@ -77,7 +77,7 @@ pub fn order_of<'a>(
     k: usize,
     order: &mut [usize; 6],
 ) -> usize
-    requires by_index { ((ns : List ℕ) × HoldsPath ns way.now n) × (k ≤ 6) × (length order.old ≡ 6) }
+    requires path { ((ns : List ℕ) × HoldsPath ns way.now n) × (k ≤ 6) × (length order.old ≡ 6) }
     requires steers { Steers steering.now segments.now k }
     ensures { Ordered segments.now k way.now n order.new result }
 {
@@ -166,7 +166,7 @@ pub fn walk_setting<'a>(
     requires plannable { Plannable nodes.now steering.now problem }
     requires way_len { length way.old ≡ max_nodes }
     ensures each { Each nodes.now steering.now problem (λ net. WalkIs net nodes.now x result way.new) }
-    ensures way_len_2 { length way.new ≡ max_nodes }
+    ensures way_len { length way.new ≡ max_nodes }
 {
     let mut bits = [0; NODE_NUMBERS];
     let mut known = [0; NODE_NUMBERS];

@@ -6,4 +6,4 @@ use Rattle.planner_settings.proofs.indices_at.Goals as goal
 
 pub returns-then-steering-s-eq0 : goal.returns-then-steering-s-eq0
 returns-then-steering-s-eq0 c = let s = c in
-    indexing_clear s.args.steering.now s.args.segments.now _ _ _ _ s.requires.room.1 s.requires.k_bound.2 s.requires.k_bound.3 c.if-steering-s-eq0.true
+    indexing_clear s.args.steering.now s.args.segments.now _ _ _ _ s.requires.steers s.requires.k_bound.2 s.requires.k_bound.3 c.if-steering-s-eq0.true

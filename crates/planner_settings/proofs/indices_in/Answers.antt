@@ -1,11 +1,11 @@
 -- `planner_settings::indices_in` meets its contract. The invariant: the indices listed and those to come make the whole.
 -- Assumes nothing.
 use Rattle.planner_settings.proofs.Ordering.{Indexing, indexing_none, indexing_room, indexing_hit, indexing_miss, indexing_all}
-use mathlib.Core.Logic.{⊎_elim}
 use native.Mathlib.Omega.{arith}
 use Prim.Native.Nat.{◌-◌}
 use borrow.Author.Rules.{rules}
 use Rattle.planner_settings.proofs.indices_in.Goals as goal
+use Rattle.planner_settings.proofs.indices_in.Goals.{then-segments-j, else-segments-j}
 
 pub loop-j-init : goal.loop-j-init
 loop-j-init c = indexing_none _ _ _ _ _ c.requires.k_bound.2 c.requires.room
@@ -31,10 +31,10 @@ overflow_add-m c = omega (arith, indexing_room _ _ _ _ _ _ _ _ c.loop-j-test.tru
 pub loop-j-preserved : goal.loop-j-preserved
 loop-j-preserved c = let l = c.loop-j.invariant in
     let t = c.loop-j-test.true in
-    ⊎_elim
-    (λ w. rw (w.1, w.2) (indexing_hit _ _ _ _ _ _ _ _ t l w.0.taken))
-    (λ w. rw (w.1, w.2) (indexing_miss _ _ _ _ _ _ _ _ t l w.0.left))
-    c.if-segments-j.branch
+    elim c.if-segments-j.branch [
+      | then-segments-j w ↦ rw (w.order-is, w.m-is) (indexing_hit _ _ _ _ _ _ _ _ t l w.if-segments-j.true)
+      | else-segments-j w ↦ rw (w.order-is, w.m-is) (indexing_miss _ _ _ _ _ _ _ _ t l w.if-segments-j.false)
+    ]
 
 pub returns : goal.returns
 returns c = indexing_all _ _ _ _ _ _ _ _ c.loop-j-test.false c.loop-j.invariant

@@ -13,10 +13,10 @@ pub overflow_mul-mask : goal.overflow_mul-mask
 overflow_mul-mask c = omega (arith, masked_small _ _ c.requires.0 _ _ c.loop-i.invariant)
 
 pub offset_bounds-t-i : goal.offset_bounds-t-i
-offset_bounds-t-i c = omega (arith, c.requires.0.targets-fit)
+offset_bounds-t-i c = omega (arith, c.requires.0.targets_fit)
 
 pub bounds-t-i : goal.bounds-t-i
-bounds-t-i c = omega (arith, c.requires.0.targets-fit)
+bounds-t-i c = omega (arith, c.requires.0.targets_fit)
 
 pub offset_bounds-marks-wide : goal.offset_bounds-marks-wide
 offset_bounds-marks-wide c = let l = c.loop-i in

@@ -7,27 +7,32 @@ use borrow.Author.Rules.{rules}
 use Rattle.planner_settings.proofs.order_of.Goals as goal
 
 pub loop-i-init : goal.loop-i-init
-loop-i-init c = ordering_none _ _ c.requires.by_index.1 _ _ _ c.requires.by_index.0.1 _ c.requires.by_index.2
+loop-i-init c = ordering_none _ _ c.requires.path.1 _ _ _ c.requires.path.0.1 _ c.requires.path.2
 
 pub offset_bounds-way-i : goal.offset_bounds-way-i
-offset_bounds-way-i c = omega (arith, c.requires.by_index.0.1.count)
+offset_bounds-way-i c = omega (arith, c.requires.path.0.1.count)
 
 pub bounds-way-i : goal.bounds-way-i
-bounds-way-i c = omega (arith, c.requires.by_index.0.1.count)
+bounds-way-i c = omega (arith, c.requires.path.0.1.count)
 
 pub indices_at-m-requires : goal.indices_at-m-requires
 indices_at-m-requires c = let p = c.requires in
     let l = c.loop-i.invariant in
     let t = c.loop-i-test.true in
-    let h = p.0.0.1 in
+    let few = p.path.1 in
+    let h = p.path.0.1 in
     let e = c.wide.ensures in
-    ((p.0.1, ordering_within _ _ p.0.1 _ _ _ h _ _ _ _ t e l, l.sized, l.most), (ordering_room _ _ p.0.1 _ _ _ h _ _ _ _ t e l, p.1))
+    record {
+      k_bound = (few, ordering_within _ _ few _ _ _ h _ _ _ _ t e l, l.sized, l.most);
+      room = ordering_room _ _ few _ _ _ h _ _ _ _ t e l;
+      steers = p.steers;
+    }
 
 pub loop-i-preserved : goal.loop-i-preserved
 loop-i-preserved c = let p = c.requires in
     let l = c.loop-i.invariant in
     let t = c.loop-i-test.true in
-    ordering_more _ _ p.0.1 _ _ _ p.0.0.1 _ _ _ _ t c.wide.ensures l _ _ c.indices_at-m.ensures
+    ordering_more _ _ p.path.1 _ _ _ p.path.0.1 _ _ _ _ t c.wide.ensures l _ _ c.indices_at-m.ensures
 
 pub returns : goal.returns
-returns c = ordering_all _ _ c.requires.by_index.1 _ _ _ c.requires.by_index.0.1 _ _ _ c.loop-i-test.false c.loop-i.invariant
+returns c = ordering_all _ _ c.requires.path.1 _ _ _ c.requires.path.0.1 _ _ _ c.loop-i-test.false c.loop-i.invariant

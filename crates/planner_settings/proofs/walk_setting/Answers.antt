@@ -15,4 +15,4 @@ find_path-requires c = let s = c in
 pub returns : goal.returns
 returns c = let s = c in
     let f = c.find_path.ensures in
-    (setting_walked _ _ s.args.problem _ _ _ c.set_words.ensures _ _ f, f.size)
+    record { each = setting_walked _ _ s.args.problem _ _ _ c.set_words.ensures _ _ f; way_len = f.size }
