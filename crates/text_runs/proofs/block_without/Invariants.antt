@@ -1,16 +1,10 @@
 -- `text_runs::block_without` meets its contract. The loop's invariant: `none` tells whether b is not among the first k bytes.
 -- Assumes nothing.
-use mathlib.Core.Logic.{⊎_elim}
-use mathlib.Core.Bool.{not}
-use mathlib.Core.Path.{◌≡◌, sym, ap, ◌∙◌}
+use mathlib.Core.Path.{◌≡◌}
 use Prim.Native.Nat.{◌-◌, ◌≤◌}
-use native.Mathlib.Omega.{arith}
-use lib.Dec.{leb, leb-zero}
+use lib.Dec.{leb}
 use lib.ListN.{drop}
-use borrow.Author.Tests.{eq-eqb, ne_eqb}
-use borrow.Author.Rules.{rules}
 use Rattle.text_runs.specs.Runs.{other, run_length}
-use Rattle.text_runs.proofs.RunLaws.{block_on, block_stop}
 use Rattle.text_runs.proofs.block_without.Given as goal
 
 abbrev pub invariant-loop-k : goal.invariant-loop-k

@@ -1,11 +1,7 @@
 -- `text_runs::blocks_end` meets its contract. The loop's invariant: the run from i on ends where that from `at` on ends.
 -- Assumes nothing.
-use mathlib.Core.Path.{◌≡◌, refl}
-use Prim.Native.Nat.{◌+◌, ◌-◌, ◌≤◌}
-use lib.ListN.{length, drop}
 use borrow.Author.Rules.{rules}
 use borrow.Author.Tests.{not-false}
-use Rattle.text_runs.specs.Runs.{in_run, run_length}
 use Rattle.text_runs.proofs.RunLaws.{run_block}
 use Rattle.text_runs.proofs.blocks_end.Goals as goal
 

@@ -1,11 +1,7 @@
 -- `text_runs::blocks_without` meets its contract. The loop's invariant: the first b from i on is the one from `at` on.
 -- Assumes nothing.
-use mathlib.Core.Path.{◌≡◌, refl}
-use Prim.Native.Nat.{◌+◌, ◌-◌, ◌≤◌}
-use lib.ListN.{length, drop}
 use borrow.Author.Rules.{rules}
 use borrow.Author.Tests.{not-false}
-use Rattle.text_runs.specs.Runs.{other, run_length}
 use Rattle.text_runs.proofs.RunLaws.{run_block}
 use Rattle.text_runs.proofs.blocks_without.Goals as goal
 

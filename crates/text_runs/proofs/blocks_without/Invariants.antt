@@ -1,12 +1,9 @@
 -- `text_runs::blocks_without` meets its contract. The loop's invariant: the first b from i on is the one from `at` on.
 -- Assumes nothing.
-use mathlib.Core.Path.{◌≡◌, refl}
+use mathlib.Core.Path.{◌≡◌}
 use Prim.Native.Nat.{◌+◌, ◌-◌, ◌≤◌}
 use lib.ListN.{length, drop}
-use borrow.Author.Rules.{rules}
-use borrow.Author.Tests.{not-false}
 use Rattle.text_runs.specs.Runs.{other, run_length}
-use Rattle.text_runs.proofs.RunLaws.{run_block}
 use Rattle.text_runs.proofs.blocks_without.Given as goal
 
 abbrev pub invariant-loop-i : goal.invariant-loop-i

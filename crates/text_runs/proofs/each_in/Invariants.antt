@@ -1,15 +1,10 @@
 -- `text_runs::each_in` meets its contract. The loop's invariant: `all` tells whether the first j bytes are of the run.
 -- Assumes nothing.
-use mathlib.Core.Path.{◌≡◌, sym, ◌∙◌}
-use mathlib.Core.Logic.{⊎_elim}
+use mathlib.Core.Path.{◌≡◌}
 use Prim.Native.Nat.{◌-◌, ◌≤◌}
-use native.Mathlib.Omega.{arith}
 use lib.ListN.{drop}
-use lib.Dec.{leb, leb-zero}
-use borrow.Author.Rules.{rules}
-use borrow.Author.Tests.{not-true, not-false}
+use lib.Dec.{leb}
 use Rattle.text_runs.specs.Runs.{in_run, run_length}
-use Rattle.text_runs.proofs.RunLaws.{block_on, block_stop}
 use Rattle.text_runs.proofs.each_in.Given as goal
 
 abbrev pub invariant-loop-j : goal.invariant-loop-j

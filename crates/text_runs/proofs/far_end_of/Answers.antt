@@ -2,7 +2,6 @@
 -- Assumes nothing.
 use native.Mathlib.Omega.{arith}
 use lib.ListN.{drop}
-use borrow.Author.Rules.{rules}
 use Rattle.text_runs.proofs.RunLaws.{run_before}
 use Rattle.text_runs.proofs.far_end_of.Goals as goal
 

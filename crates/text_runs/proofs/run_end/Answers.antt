@@ -1,11 +1,7 @@
 -- `text_runs::run_end` meets its contract. The loop's invariant: the run from i on ends where that from `at` on ends.
 -- Assumes nothing.
-use mathlib.Core.Path.{◌≡◌, sym, ◌∙◌}
-use Prim.Native.Nat.{◌+◌, ◌-◌}
-use lib.ListN.{length, drop}
-use borrow.Author.Rules.{rules}
+use mathlib.Core.Path.{sym, ◌∙◌}
 use borrow.Author.Tests.{not-true, not-false}
-use Rattle.text_runs.specs.Runs.{in_run, run_length}
 use Rattle.text_runs.proofs.RunLaws.{run_end, run_stop, run_on}
 use Rattle.text_runs.proofs.run_end.Goals as goal
 

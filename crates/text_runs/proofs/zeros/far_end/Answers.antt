@@ -1,12 +1,9 @@
 -- `text_runs::zeros::far_end` meets its contract. The loop's invariant: the run from i on ends where that from `at` on ends.
 -- Assumes nothing.
-use mathlib.Core.Path.{◌≡◌}
-use Prim.Native.Nat.{◌+◌, ◌-◌}
 use native.Mathlib.Omega.{arith}
-use lib.ListN.{length, drop, length-drop}
-use borrow.Author.Rules.{rules}
+use lib.ListN.{drop, length-drop}
 use borrow.Author.Tests.{eq-eqb, ne_eqb}
-use Rattle.text_runs.specs.Runs.{run_length, is_zero}
+use Rattle.text_runs.specs.Runs.{is_zero}
 use Rattle.text_runs.proofs.RunLaws.{run_end, run_stop, run_on, run_within}
 use Rattle.text_runs.proofs.zeros.far_end.Goals as goal
 

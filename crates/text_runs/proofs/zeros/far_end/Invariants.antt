@@ -2,12 +2,8 @@
 -- Assumes nothing.
 use mathlib.Core.Path.{◌≡◌}
 use Prim.Native.Nat.{◌+◌, ◌-◌}
-use native.Mathlib.Omega.{arith}
-use lib.ListN.{length, drop, length-drop}
-use borrow.Author.Rules.{rules}
-use borrow.Author.Tests.{eq-eqb, ne_eqb}
+use lib.ListN.{length, drop}
 use Rattle.text_runs.specs.Runs.{run_length, is_zero}
-use Rattle.text_runs.proofs.RunLaws.{run_end, run_stop, run_on, run_within}
 use Rattle.text_runs.proofs.zeros.far_end.Given as goal
 
 abbrev pub invariant-loop-i : goal.invariant-loop-i

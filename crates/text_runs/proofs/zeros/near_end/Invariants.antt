@@ -1,13 +1,9 @@
 -- `text_runs::zeros::near_end` meets its contract. The loop's invariant: the run from k on ends where that from `at` on ends.
 -- Assumes nothing.
-use mathlib.Core.Path.{◌≡◌, refl}
+use mathlib.Core.Path.{◌≡◌}
 use Prim.Native.Nat.{◌+◌, ◌-◌, ◌≤◌}
-use native.Mathlib.Omega.{arith}
 use lib.ListN.{drop}
-use borrow.Author.Rules.{rules}
-use borrow.Author.Tests.{eq-eqb, ne_eqb}
 use Rattle.text_runs.specs.Runs.{run_length, is_zero}
-use Rattle.text_runs.proofs.RunLaws.{run_stop, run_on}
 use Rattle.text_runs.proofs.zeros.near_end.Given as goal
 
 abbrev pub invariant-loop-k : goal.invariant-loop-k

@@ -1,15 +1,10 @@
 -- `text_runs::zeros::zero_block` meets its contract. The loop's invariant: `all` tells whether the first j bytes are zeros.
 -- Assumes nothing.
-use mathlib.Core.Logic.{⊎_elim}
-use mathlib.Core.Path.{◌≡◌, sym, ◌∙◌}
+use mathlib.Core.Path.{◌≡◌}
 use Prim.Native.Nat.{◌-◌, ◌≤◌}
-use native.Mathlib.Omega.{arith}
-use lib.Dec.{leb, leb-zero}
+use lib.Dec.{leb}
 use lib.ListN.{drop}
-use borrow.Author.Tests.{eq-eqb, ne_eqb}
-use borrow.Author.Rules.{rules}
 use Rattle.text_runs.specs.Runs.{run_length, is_zero}
-use Rattle.text_runs.proofs.RunLaws.{block_on, block_stop}
 use Rattle.text_runs.proofs.zeros.zero_block.Given as goal
 
 abbrev pub invariant-loop-j : goal.invariant-loop-j

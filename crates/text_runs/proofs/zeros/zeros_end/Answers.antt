@@ -1,6 +1,5 @@
 -- `text_runs::zeros::zeros_end` meets its contract.
 -- Assumes nothing.
-use borrow.Author.Rules.{rules}
 use Rattle.text_runs.proofs.zeros.zeros_end.Goals as goal
 
 pub returns-then-near-at : goal.returns-then-near-at
