@@ -1,13 +1,11 @@
 -- `marker_targets::holds_bits` meets its contract. The invariant: the bits from number b on decide.
 -- Assumes nothing.
 use Prim.Native.Nat.{◌-◌}
-use mathlib.Core.Path.{◌≡◌, sym, ◌∙◌}
-use native.Mathlib.Omega.{arith}
-use borrow.Author.Rules.{rules}
+use mathlib.Core.Path.{◌≡◌}
 use Rattle.model.specs.Mark.{holds_bits}
 use Rattle.model.specs.Network.{tabulate}
 use Rattle.network_words.specs.Words.{word_bit, trits_of}
-use Rattle.marker_targets.proofs.Judging.{held_from, bits_first, bits_last, bit_unknown, bit_other, bit_same}
+use Rattle.marker_targets.proofs.Judging.{held_from}
 use Rattle.marker_targets.proofs.holds_bits.Given as goal
 
 abbrev pub invariant-loop-b : goal.invariant-loop-b

@@ -1,12 +1,8 @@
 -- `marker_targets::judge` meets its contract. The invariant is the law `Judging`; the measure is what is left of the targets.
 -- Assumes nothing.
 use Prim.Native.Nat.{◌-◌}
-use mathlib.Core.Logic.{⊎_elim}
-use mathlib.Core.Path.{refl}
-use native.Mathlib.Omega.{arith}
-use borrow.Author.Rules.{rules}
 use Rattle.marker_operations.specs.Operations.{marking}
-use Rattle.marker_targets.proofs.Judging.{Judging, judging_first, judging_held, judging_read, judged_unreached, judged_not_held, judged_last}
+use Rattle.marker_targets.proofs.Judging.{Judging}
 use Rattle.marker_targets.proofs.judge.Given as goal
 
 abbrev pub invariant-loop-i : goal.invariant-loop-i

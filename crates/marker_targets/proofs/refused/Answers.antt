@@ -1,6 +1,5 @@
 -- `marker_targets::refused` meets its contract.
 -- Assumes nothing.
-use borrow.Author.Rules.{rules}
 use Rattle.marker_targets.proofs.refused.Goals as goal
 
 pub returns : goal.returns
