@@ -5,8 +5,7 @@ use borrow.Author.Rules.{rules}
 use Rattle.planner_rows.proofs.know_row.Goals as goal
 
 pub returns-then-number-eq1 : goal.returns-then-number-eq1
-returns-then-number-eq1 c = let s = c in
-    (s.requires.x_lt_max_settings.1, sym c.number.ensures ∙ c.if-number-eq1.true)
+returns-then-number-eq1 c = record { rows_right = c.requires.x_lt_max_settings.1; x_after = sym c.number.ensures ∙ c.if-number-eq1.true }
 
 pub returns : goal.returns
 returns c = c.read_row.ensures

@@ -30,7 +30,7 @@ double-requires c = let s = c in
     let t = c.loop-h-test.true in
     let d = c.loop-h.invariant in
     let q = landed_round _ _ _ e s.requires.2 _ _ _ t d in
-    ((d.size, q.half, c.weight.ensures.1), q.small)
+    record { lands_len = (d.size, q.half, c.weight.ensures.1); by_index = q.small }
 
 pub overflow_mul-h : goal.overflow_mul-h
 overflow_mul-h c = let s = c in

@@ -16,22 +16,23 @@ write_stop-requires c = let s = c in
     (s.requires.x_lt_max_settings.1.size, s.requires.x_lt_max_settings.0)
 
 pub write_path-requires : goal.write_path-requires
-write_path-requires c = let n = c in
-    let r = n in
-    let s = r in
-    let w = r.walk_setting.ensures.each in
-    ((_, _, path_is _ _ s.args.problem _ s.requires.x_lt_max_settings.1 _ _ _ w _ s.requires.plannable.1 _ _ n.in-Path.is), (s.requires.x_lt_max_settings.1.size, s.requires.x_lt_max_settings.0))
+write_path-requires c = let p = c.requires in
+    let w = c.walk_setting.ensures.each in
+    record {
+      path_read = (_, _, path_is _ _ c.args.problem _ p.x_lt_max_settings.1 _ _ _ w _ p.plannable.1 _ _ c.in-Path.is);
+      rows_len = (p.x_lt_max_settings.1.size, p.x_lt_max_settings.0);
+    }
 
 pub returns-in-Stop : goal.returns-in-Stop
-returns-in-Stop c = let told = c in
-    let r = told in
-    let s = r in
-    let u = c.write_stop.ensures in
-    (stop_known _ _ s.args.problem _ s.requires.x_lt_max_settings.1 _ _ _ r.walk_setting.ensures.each _ _ told.in-Stop.is u, u.known)
+returns-in-Stop c = let u = c.write_stop.ensures in
+    record {
+      rows_right = stop_known _ _ c.args.problem _ c.requires.x_lt_max_settings.1 _ _ _ c.walk_setting.ensures.each _ _ c.in-Stop.is u;
+      x_after = u.known;
+    }
 
 pub returns-in-Path : goal.returns-in-Path
-returns-in-Path c = let n = c in
-    let r = n in
-    let s = r in
-    let q = c.write_path.ensures in
-    (path_known _ _ s.args.problem _ s.requires.x_lt_max_settings.1 _ _ _ r.walk_setting.ensures.each _ _ _ n.in-Path.is q, q.known)
+returns-in-Path c = let q = c.write_path.ensures in
+    record {
+      rows_right = path_known _ _ c.args.problem _ c.requires.x_lt_max_settings.1 _ _ _ c.walk_setting.ensures.each _ _ _ c.in-Path.is q;
+      x_after = q.known;
+    }

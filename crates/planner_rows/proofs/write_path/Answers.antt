@@ -15,11 +15,11 @@ mark_path-requires c = ((c.requires.path_read.0, c.requires.path_read.2.holds), 
 pub order_of-m-requires : goal.order_of-m-requires
 order_of-m-requires c = let s = c in
     let q = s.requires.path_read.2 in
-    (((s.requires.path_read.0, q.holds), q.prepared.few, refl), planned_steers _ _ _ _ q.prepared)
+    record { path = ((s.requires.path_read.0, q.holds), q.prepared.few, refl); steers = planned_steers _ _ _ _ q.prepared }
 
 pub mask_of_targets-gain-requires : goal.mask_of_targets-gain-requires
 mask_of_targets-gain-requires c = let q = c.requires.path_read.2 in
-    (q.prepared.in-limits, planned_targets _ _ _ _ q.prepared, marks_flags _ _ _ c.mark_path.ensures)
+    (q.prepared.in_limits, planned_targets _ _ _ _ q.prepared, marks_flags _ _ _ c.mark_path.ensures)
 
 pub base_of-base-requires : goal.base_of-base-requires
 base_of-base-requires c = let q = c.requires.path_read.2 in
@@ -32,12 +32,9 @@ overflow_cast-len c = let q = c.requires.path_read.2 in
 pub write_row-requires : goal.write_row-requires
 write_row-requires c = let s = c in
     let o = c.order_of-m.ensures in
-    ((s.requires.rows_len.0, s.requires.rows_len.1, o.most), order_small _ _ _ _ _ o s.requires.path_read.2.prepared)
+    record { rows_len = (s.requires.rows_len.0, s.requires.rows_len.1, o.most); by_index = order_small _ _ _ _ _ o s.requires.path_read.2.prepared }
 
 pub returns : goal.returns
-returns c = let at-base-of = c in
-    let at-mask-of-targets = at-base-of in
-    let at-order-of = at-mask-of-targets in
-    let at-mark-path = at-order-of in
-    row_read _ _ _ _ _ at-order-of.order_of-m.ensures _ at-mark-path.mark_path.ensures _ _ _ _ _ c.power_of_2.ensures.0
-    at-mask-of-targets.mask_of_targets-gain.ensures at-base-of.base_of-base.ensures _ _ c.write_row.ensures _
+returns c =
+    row_read _ _ _ _ _ c.order_of-m.ensures _ c.mark_path.ensures _ _ _ _ _ c.power_of_2.ensures.0 c.mask_of_targets-gain.ensures
+    c.base_of-base.ensures _ _ c.write_row.ensures _

@@ -7,7 +7,7 @@ use Rattle.planner_rows.proofs.write_row.Goals as goal
 
 pub write_order-requires : goal.write_order-requires
 write_order-requires c = let p = c.requires in
-    ((simp length-set p.0.0, p.0.1, p.0.2), p.1)
+    record { rows_len = (simp length-set p.rows_len.0, p.rows_len.1, p.rows_len.2); by_index = p.by_index }
 
 pub returns : goal.returns
 returns c = let s = c in

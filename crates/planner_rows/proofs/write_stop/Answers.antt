@@ -5,4 +5,4 @@ use Rattle.planner_rows.proofs.write_stop.Goals as goal
 
 pub returns : goal.returns
 returns c = let w = c.write_row.ensures in
-    record { known = w.known; count-is = w.count-is; gain-is = w.gain-is; outside = w.outside; size = w.size }
+    record { known = w.known; count_is = w.count_is; gain_is = w.gain_is; outside = w.outside; size = w.size }
