@@ -3,8 +3,6 @@
 use mathlib.Core.Bool.{Bool, true, false, cond}
 use mathlib.Core.Path.{◌≡◌, refl, sym, ap, ◌∙◌}
 use native.Mathlib.Omega.{arith}
-use borrow.Author.Tests.{not-true, not-false}
-use borrow.Author.Rules.{rules}
 use Rattle.model.specs.NetworkText.{field, line_by}
 use Rattle.model.specs.Text.{Bytes, fields, Hold, Write}
 use Rattle.text.specs.Places.{FieldAt}
@@ -18,100 +16,82 @@ returns-then-count-ne3 c = plain_line_law _ _ _ _ c.plain.ensures
     (wrong (bits_count c.args.unknown _ (λ e. c.if-count-ne3.true (c.requires.counted ∙ e))))
 
 pub returns-in_default : goal.returns-in_default
-returns-in_default c = let at-number = c in
-    let at-if1 = at-number in
-    let at-start = at-if1 in
-    plain_line_law _ _ _ _ c.plain-in_default.ensures
+returns-in_default c = plain_line_law _ _ _ _ c.plain-in_default.ensures
     (wrong
-    (bits_number _ (sym at-start.requires.counted ∙ at-if1.if-count-ne3.false) at-start.args.unknown
-    (read_as at-number.number-a.ensures c.in_default.is)))
+    (bits_number _ (sym c.requires.counted ∙ c.if-count-ne3.false) c.args.unknown
+    (read_as c.number-a.ensures c.in_default.is)))
 
 pub overflow_sub-end : goal.overflow_sub-end
 overflow_sub-end c =
-    let start : tie.Start =
-        c in
-    let placed : FieldAt start.args.line.now start.args.starts.now 2 =
-        start.requires.placed 2 (omega arith) (omega (arith, start.requires.counted)) in
+    let placed : FieldAt c.args.line.now c.args.starts.now 2 =
+    c.requires.placed 2 (omega arith) (omega (arith, c.requires.counted)) in
     omega (arith, placed.ordered)
 
 pub slice_bounds-are_bits-count : goal.slice_bounds-are_bits-count
 slice_bounds-are_bits-count c =
-    let start : tie.Start =
-        c in
-    let placed : FieldAt start.args.line.now start.args.starts.now 2 =
-        start.requires.placed 2 (omega arith) (omega (arith, start.requires.counted)) in
+    let placed : FieldAt c.args.line.now c.args.starts.now 2 =
+    c.requires.placed 2 (omega arith) (omega (arith, c.requires.counted)) in
     omega (arith, placed.ordered)
 
 pub slice_bounds-are_bits-start : goal.slice_bounds-are_bits-start
 slice_bounds-are_bits-start c =
-    let start : tie.Start =
-        c in
-    let placed : FieldAt start.args.line.now start.args.starts.now 2 =
-        start.requires.placed 2 (omega arith) (omega (arith, start.requires.counted)) in
+    let placed : FieldAt c.args.line.now c.args.starts.now 2 =
+    c.requires.placed 2 (omega arith) (omega (arith, c.requires.counted)) in
     omega (arith, placed.ordered)
 
 pub slice_bounds-are_bits-end : goal.slice_bounds-are_bits-end
 slice_bounds-are_bits-end c =
-    let start : tie.Start =
-        c in
-    let placed : FieldAt start.args.line.now start.args.starts.now 2 =
-        start.requires.placed 2 (omega arith) (omega (arith, start.requires.counted)) in
+    let placed : FieldAt c.args.line.now c.args.starts.now 2 =
+    c.requires.placed 2 (omega arith) (omega (arith, c.requires.counted)) in
     omega (arith, placed.within)
 
 pub returns-then-not-are_bits : goal.returns-then-not-are_bits
 returns-then-not-are_bits c =
-    let start : tie.Start =
-        c in
-    let placed : FieldAt start.args.line.now start.args.starts.now 2 =
-        start.requires.placed 2 (omega arith) (omega (arith, start.requires.counted)) in
+    let placed : FieldAt c.args.line.now c.args.starts.now 2 =
+    c.requires.placed 2 (omega arith) (omega (arith, c.requires.counted)) in
     let bits_of : Bytes =
-        field (fields start.args.line.now) 2 in
-    let form : (u : Bool) → start.args.unknown ≡ u → bits_form u bits_of ≡ c.are_bits.result =
-        λ u e. ap (λ (t : Bool). bits_form t bits_of (sym e)
-    ∙ sym (c.are_bits.ensures ∙ ap (bits_form start.args.unknown) placed.content) in
-    let a = start in
+    field (fields c.args.line.now) 2 in
+    let form : (u : Bool) → c.args.unknown ≡ u → bits_form u bits_of ≡ c.are_bits.result =
+    λ u e. ap (λ (t : Bool). bits_form t bits_of) (sym e)
+    ∙ sym (c.are_bits.ensures ∙ ap (bits_form c.args.unknown) placed.content) in
     plain_line_law _ _ _ _ c.plain-then-not-are_bits.ensures
     (wrong
-    (bits_wrong _ (sym a.pre.counted ∙ c.if-count-ne3.false) a.args.unknown _
+    (bits_wrong _ (sym c.requires.counted ∙ c.if-count-ne3.false) c.args.unknown _
     (read_as c.number-a.ensures c.in-Value.is)
-    (form _ refl ∙ not-true _ c.if-not-are_bits.true-raw)))
+    (form _ refl ∙ c.if-not-are_bits.true)))
 
 pub returns-then-unknown : goal.returns-then-unknown
 returns-then-unknown c =
-    let start : tie.Start =
-        c in
-    let placed : FieldAt start.args.line.now start.args.starts.now 2 =
-        start.requires.placed 2 (omega arith) (omega (arith, start.requires.counted)) in
+    let placed : FieldAt c.args.line.now c.args.starts.now 2 =
+    c.requires.placed 2 (omega arith) (omega (arith, c.requires.counted)) in
     let bits_of : Bytes =
-        field (fields start.args.line.now) 2 in
-    let form : (u : Bool) → start.args.unknown ≡ u → bits_form u bits_of ≡ c.are_bits.result =
-        λ u e. ap (λ (t : Bool). bits_form t bits_of (sym e)
-    ∙ sym (c.are_bits.ensures ∙ ap (bits_form start.args.unknown) placed.content) in
-    let known : (u : Bool) → start.args.unknown ≡ u
-    → IsEntry bits_of (line_by (fields start.args.line.now) (cond u Hold Write))
+    field (fields c.args.line.now) 2 in
+    let form : (u : Bool) → c.args.unknown ≡ u → bits_form u bits_of ≡ c.are_bits.result =
+    λ u e. ap (λ (t : Bool). bits_form t bits_of) (sym e)
+    ∙ sym (c.are_bits.ensures ∙ ap (bits_form c.args.unknown) placed.content) in
+    let known : (u : Bool) → c.args.unknown ≡ u
+    → IsEntry bits_of (line_by (fields c.args.line.now) (cond u Hold Write))
     (bits_entry u c.in-Value.s) =
-        λ u e. let d = c.number-a.ensures in
+    λ u e. let d = c.number-a.ensures in
     let p = c.in-Value.is in
-    bits_line_law _ (sym start.requires.counted ∙ c.if-count-ne3.false) u _
-    (read_as d p) (d.small _ p) (form u e ∙ not-false _ c.if-not-are_bits.false-raw) in
+    bits_line_law _ (sym c.requires.counted ∙ c.if-count-ne3.false) u _
+    (read_as d p) (d.small _ p) (form u e ∙ c.if-not-are_bits.false) in
     rw c.if-unknown.true (bits_at_law 2 _ _ _ _ placed (known true c.if-unknown.true))
 
 pub returns : goal.returns
 returns c =
-    let start : tie.Start =
-        c in
-    let placed : FieldAt start.args.line.now start.args.starts.now 2 =
-        start.requires.placed 2 (omega arith) (omega (arith, start.requires.counted)) in
+    let placed : FieldAt c.args.line.now c.args.starts.now 2 =
+    c.requires.placed 2 (omega arith) (omega (arith, c.requires.counted)) in
     let bits_of : Bytes =
-        field (fields start.args.line.now) 2 in
-    let form : (u : Bool) → start.args.unknown ≡ u → bits_form u bits_of ≡ c.are_bits.result =
-        λ u e. ap (λ (t : Bool). bits_form t bits_of (sym e)
-    ∙ sym (c.are_bits.ensures ∙ ap (bits_form start.args.unknown) placed.content) in
-    let known : (u : Bool) → start.args.unknown ≡ u
-    → IsEntry bits_of (line_by (fields start.args.line.now) (cond u Hold Write))
+    field (fields c.args.line.now) 2 in
+    let form : (u : Bool) → c.args.unknown ≡ u → bits_form u bits_of ≡ c.are_bits.result =
+    λ u e. ap (λ (t : Bool). bits_form t bits_of) (sym e)
+    ∙ sym (c.are_bits.ensures ∙ ap (bits_form c.args.unknown) placed.content) in
+    let known : (u : Bool) → c.args.unknown ≡ u
+    → IsEntry bits_of (line_by (fields c.args.line.now) (cond u Hold Write))
     (bits_entry u c.in-Value.s) =
-        λ u e. let d = c.number-a.ensures in
+    λ u e. let d = c.number-a.ensures in
     let p = c.in-Value.is in
-    bits_line_law _ (sym start.requires.counted ∙ c.if-count-ne3.false) u _
-    (read_as d p) (d.small _ p) (form u e ∙ not-false _ c.if-not-are_bits.false-raw) in
+    bits_line_law _ (sym c.requires.counted ∙ c.if-count-ne3.false) u _
+    (read_as d p) (d.small _ p) (form u e ∙ c.if-not-are_bits.false) in
     rw c.if-unknown.false (bits_at_law 2 _ _ _ _ placed (known false c.if-unknown.false))

@@ -1,10 +1,8 @@
 -- `network_line::decimals_of` meets its contract. The loop's invariant: k fields behind the first are read.
 -- Assumes nothing.
 use Prim.Native.Nat.{◌-◌}
-use native.Mathlib.Omega.{arith}
-use borrow.Author.Rules.{rules}
 use Rattle.model.specs.Text.{fields}
-use Rattle.network_line.proofs.Lines.{read_as, Done, done_none, done_bad, done_all, done_next}
+use Rattle.network_line.proofs.Lines.{Done}
 use Rattle.network_line.proofs.decimals_of.Given as goal
 
 abbrev pub invariant-loop-k : goal.invariant-loop-k

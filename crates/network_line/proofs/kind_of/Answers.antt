@@ -1,7 +1,6 @@
 -- `network_line::kind_of` meets its contract, comparison by comparison.
 -- Assumes nothing.
 use mathlib.Core.Path.{sym, ◌∙◌}
-use borrow.Author.Rules.{rules}
 use Rattle.network_line.proofs.kind_of.Goals as goal
 
 pub returns-then-equal : goal.returns-then-equal

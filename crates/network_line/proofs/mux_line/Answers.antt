@@ -1,8 +1,6 @@
 -- `network_line::mux_line` meets its contract.
 -- Assumes nothing.
 use native.Mathlib.Omega.{arith}
-use borrow.Author.Tests.{not-true, not-false}
-use borrow.Author.Rules.{rules}
 use Rattle.network_line.proofs.Lines.{wrong, mux_few, mux_many, mux_bad, mux_line_law}
 use Rattle.network_line.proofs.mux_line.Goals as goal
 
@@ -13,8 +11,8 @@ pub returns-then-count-gt7 : goal.returns-then-count-gt7
 returns-then-count-gt7 c = wrong (mux_many _ (omega arith))
 
 pub returns-then-not-n : goal.returns-then-not-n
-returns-then-not-n c = wrong (mux_bad _ _ c.decimals_of-n.ensures (omega arith) (omega arith) (not-true _ c.if-not-n.true-raw))
+returns-then-not-n c = wrong (mux_bad _ _ c.decimals_of-n.ensures (omega arith) (omega arith) c.if-not-n.true)
 
 pub returns : goal.returns
 returns c = mux_line_law _ _ c.decimals_of-n.ensures (omega arith) (omega arith) _
-    (not-false _ c.if-not-n.false-raw) c.requires.counted
+    c.if-not-n.false c.requires.counted

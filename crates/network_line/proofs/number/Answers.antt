@@ -1,7 +1,6 @@
 -- `network_line::number` meets its contract.
 -- Assumes nothing.
 use mathlib.Core.Path.{subst}
-use borrow.Author.Rules.{rules}
 use Rattle.text.specs.Numbers.{IsDecimal}
 use Rattle.network_line.proofs.number.Goals as goal
 

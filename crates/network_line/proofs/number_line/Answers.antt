@@ -3,7 +3,6 @@
 use mathlib.Core.Bool.{Bool, true, false, cond}
 use mathlib.Core.List.{[]}
 use mathlib.Core.Path.{sym, ◌∙◌}
-use borrow.Author.Rules.{rules}
 use Rattle.model.specs.Text.{fields, Out, Read}
 use Rattle.model.specs.NetworkText.{line_by}
 use Rattle.network_line.specs.Line.{IsEntry}

@@ -5,8 +5,6 @@ use mathlib.Core.List.{List}
 use mathlib.Core.Path.{◌≡◌, sym, ap, ◌∙◌}
 use native.Mathlib.Omega.{arith}
 use lib.ListN.{length}
-use borrow.Author.Tests.{not-true, not-false}
-use borrow.Author.Rules.{rules}
 use Rattle.model.specs.NetworkText.{field}
 use Rattle.model.specs.Text.{Bytes, fields}
 use Rattle.text.specs.Places.{FieldAt}
@@ -26,62 +24,50 @@ returns-then-count-ne5 c = let counted = c.requires.counted in
 
 pub overflow_sub-end : goal.overflow_sub-end
 overflow_sub-end c =
-    let start : tie.Start =
-        c in
-    let placed : FieldAt start.args.line.now start.args.starts.now 4 =
-        start.requires.placed 4 (omega arith) (omega (arith, start.requires.counted)) in
+    let placed : FieldAt c.args.line.now c.args.starts.now 4 =
+    c.requires.placed 4 (omega arith) (omega (arith, c.requires.counted)) in
     omega (arith, placed.ordered)
 
 pub slice_bounds-are_bits-count : goal.slice_bounds-are_bits-count
 slice_bounds-are_bits-count c =
-    let start : tie.Start =
-        c in
-    let placed : FieldAt start.args.line.now start.args.starts.now 4 =
-        start.requires.placed 4 (omega arith) (omega (arith, start.requires.counted)) in
+    let placed : FieldAt c.args.line.now c.args.starts.now 4 =
+    c.requires.placed 4 (omega arith) (omega (arith, c.requires.counted)) in
     omega (arith, placed.ordered)
 
 pub slice_bounds-are_bits-start : goal.slice_bounds-are_bits-start
 slice_bounds-are_bits-start c =
-    let start : tie.Start =
-        c in
-    let placed : FieldAt start.args.line.now start.args.starts.now 4 =
-        start.requires.placed 4 (omega arith) (omega (arith, start.requires.counted)) in
+    let placed : FieldAt c.args.line.now c.args.starts.now 4 =
+    c.requires.placed 4 (omega arith) (omega (arith, c.requires.counted)) in
     omega (arith, placed.ordered)
 
 pub slice_bounds-are_bits-end : goal.slice_bounds-are_bits-end
 slice_bounds-are_bits-end c =
-    let start : tie.Start =
-        c in
-    let placed : FieldAt start.args.line.now start.args.starts.now 4 =
-        start.requires.placed 4 (omega arith) (omega (arith, start.requires.counted)) in
+    let placed : FieldAt c.args.line.now c.args.starts.now 4 =
+    c.requires.placed 4 (omega arith) (omega (arith, c.requires.counted)) in
     omega (arith, placed.within)
 
 pub returns-then-not-are_bits : goal.returns-then-not-are_bits
 returns-then-not-are_bits c =
-    let start : tie.Start =
-        c in
     let fields_of : List Bytes =
-        fields start.args.line.now in
+    fields c.args.line.now in
     let five : length fields_of ≡ 5 =
-        sym start.requires.counted ∙ c.if-count-ne5.false in
-    let placed : FieldAt start.args.line.now start.args.starts.now 4 =
-        start.requires.placed 4 (omega arith) (omega (arith, start.requires.counted)) in
+    sym c.requires.counted ∙ c.if-count-ne5.false in
+    let placed : FieldAt c.args.line.now c.args.starts.now 4 =
+    c.requires.placed 4 (omega arith) (omega (arith, c.requires.counted)) in
     let form : bits_form true (field fields_of 4) ≡ c.are_bits.result =
-        sym (c.are_bits.ensures ∙ ap (bits_form true) placed.content) in
+    sym (c.are_bits.ensures ∙ ap (bits_form true) placed.content) in
     plain_line_law _ _ _ _ c.plain-then-not-are_bits.ensures
-    (wrong (seg_wrong _ five (form ∙ not-true _ c.if-not-are_bits.true-raw)))
+    (wrong (seg_wrong _ five (form ∙ c.if-not-are_bits.true)))
 
 pub returns : goal.returns
 returns c =
-    let start : tie.Start =
-        c in
-    let placed : FieldAt start.args.line.now start.args.starts.now 4 =
-        start.requires.placed 4 (omega arith) (omega (arith, start.requires.counted)) in
+    let placed : FieldAt c.args.line.now c.args.starts.now 4 =
+    c.requires.placed 4 (omega arith) (omega (arith, c.requires.counted)) in
     let fields_of : List Bytes =
-        fields start.args.line.now in
+    fields c.args.line.now in
     let five : length fields_of ≡ 5 =
-        sym start.requires.counted ∙ c.if-count-ne5.false in
+    sym c.requires.counted ∙ c.if-count-ne5.false in
     let form : bits_form true (field fields_of 4) ≡ c.are_bits.result =
-        sym (c.are_bits.ensures ∙ ap (bits_form true) placed.content) in
+    sym (c.are_bits.ensures ∙ ap (bits_form true) placed.content) in
     bits_at_law 4 _ _ _ _ placed
-    (seg_reset _ five _ (form ∙ not-false _ c.if-not-are_bits.false-raw) c.segment_of-entry.ensures)
+    (seg_reset _ five _ (form ∙ c.if-not-are_bits.false) c.segment_of-entry.ensures)

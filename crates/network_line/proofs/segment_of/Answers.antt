@@ -1,7 +1,6 @@
 -- `network_line::segment_of` meets its contract, field by field.
 -- Assumes nothing.
 use mathlib.Core.Path.{◌≡◌, sym, ap, ◌∙◌}
-use borrow.Author.Rules.{rules}
 use Rattle.model.specs.NetworkText.{kind}
 use Rattle.model.specs.Text.{fields}
 use Rattle.network_line.specs.declared.Kind.TheVariants.{Shadow, Plain, Unknown}
@@ -22,39 +21,33 @@ returns-in_default-b c = λ f g. wrong
 
 pub returns-in-Shadow : goal.returns-in-Shadow
 returns-in-Shadow c =
-    let start : tie.Start =
-    c in
     let known : (k : Kind) → c.kind_of-k.result ≡ k
-    → SaysSegment (fields start.args.line.now) (seg_entry c.in-Value.from c.in-Value-b.len k) =
+    → SaysSegment (fields c.args.line.now) (seg_entry c.in-Value.from c.in-Value-b.len k) =
     λ k e. let d = c.number-a.ensures in
     let p = c.in-Value.is in
     let f = c.number-b.ensures in
     let q = c.in-Value-b.is in
-    seg_kind (fields start.args.line.now) _ _ k (read_as d p) (read_as f q) (ap kind_for (sym e) ∙ c.kind_of-k.ensures ∙ ap kind c.field.ensures) (d.small _ p) (f.small _ q) in
+    seg_kind (fields c.args.line.now) _ _ k (read_as d p) (read_as f q) (ap kind_for (sym e) ∙ c.kind_of-k.ensures ∙ ap kind c.field.ensures) (d.small _ p) (f.small _ q) in
     known Shadow c.in-Shadow.is
 
 pub returns-in-Plain : goal.returns-in-Plain
 returns-in-Plain c =
-    let start : tie.Start =
-    c in
     let known : (k : Kind) → c.kind_of-k.result ≡ k
-    → SaysSegment (fields start.args.line.now) (seg_entry c.in-Value.from c.in-Value-b.len k) =
+    → SaysSegment (fields c.args.line.now) (seg_entry c.in-Value.from c.in-Value-b.len k) =
     λ k e. let d = c.number-a.ensures in
     let p = c.in-Value.is in
     let f = c.number-b.ensures in
     let q = c.in-Value-b.is in
-    seg_kind (fields start.args.line.now) _ _ k (read_as d p) (read_as f q) (ap kind_for (sym e) ∙ c.kind_of-k.ensures ∙ ap kind c.field.ensures) (d.small _ p) (f.small _ q) in
+    seg_kind (fields c.args.line.now) _ _ k (read_as d p) (read_as f q) (ap kind_for (sym e) ∙ c.kind_of-k.ensures ∙ ap kind c.field.ensures) (d.small _ p) (f.small _ q) in
     known Plain c.in-Plain.is
 
 pub returns-in-Unknown : goal.returns-in-Unknown
 returns-in-Unknown c =
-    let start : tie.Start =
-    c in
     let known : (k : Kind) → c.kind_of-k.result ≡ k
-    → SaysSegment (fields start.args.line.now) (seg_entry c.in-Value.from c.in-Value-b.len k) =
+    → SaysSegment (fields c.args.line.now) (seg_entry c.in-Value.from c.in-Value-b.len k) =
     λ k e. let d = c.number-a.ensures in
     let p = c.in-Value.is in
     let f = c.number-b.ensures in
     let q = c.in-Value-b.is in
-    seg_kind (fields start.args.line.now) _ _ k (read_as d p) (read_as f q) (ap kind_for (sym e) ∙ c.kind_of-k.ensures ∙ ap kind c.field.ensures) (d.small _ p) (f.small _ q) in
+    seg_kind (fields c.args.line.now) _ _ k (read_as d p) (read_as f q) (ap kind_for (sym e) ∙ c.kind_of-k.ensures ∙ ap kind c.field.ensures) (d.small _ p) (f.small _ q) in
     known Unknown c.in-Unknown.is

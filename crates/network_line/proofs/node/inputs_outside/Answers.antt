@@ -8,23 +8,16 @@ pub returns-then-n-a : goal.returns-then-n-a
 returns-then-n-a c = any_first c.args.n c.args.count c.args.a c.args.b c.args.c c.args.d (search rules) (search rules) (search rules)
 
 pub returns-then-n-b : goal.returns-then-n-b
-returns-then-n-b c = let at-start = c in
-    any_second at-start.args.n at-start.args.count at-start.args.a at-start.args.b at-start.args.c at-start.args.d (search rules) (search rules) (search rules) (search rules)
+returns-then-n-b c = any_second c.args.n c.args.count c.args.a c.args.b c.args.c c.args.d (search rules) (search rules) (search rules) (search rules)
 
 pub returns-then-count-eq2 : goal.returns-then-count-eq2
-returns-then-count-eq2 c = let at-start = c in
-    none_of_two at-start.args.n at-start.args.count at-start.args.a at-start.args.b at-start.args.c at-start.args.d (search rules) (search rules) (search rules) (search rules) (search rules)
+returns-then-count-eq2 c = none_of_two c.args.n c.args.count c.args.a c.args.b c.args.c c.args.d (search rules) (search rules) (search rules) (search rules) (search rules)
 
 pub returns-then-n-c : goal.returns-then-n-c
-returns-then-n-c c = let at-start = c in
-    any_third at-start.args.n at-start.args.count at-start.args.a at-start.args.b at-start.args.c at-start.args.d (search rules) (search rules) (search rules) (search rules) c.if-count-eq2.false (search rules)
+returns-then-n-c c = any_third c.args.n c.args.count c.args.a c.args.b c.args.c c.args.d (search rules) (search rules) (search rules) (search rules) c.if-count-eq2.false (search rules)
 
 pub returns-then-count-eq3 : goal.returns-then-count-eq3
-returns-then-count-eq3 c = let at-if3 = c in
-    let at-start = at-if3 in
-    none_of_three at-start.args.n at-start.args.count at-start.args.a at-start.args.b at-start.args.c at-start.args.d (search rules) (search rules) (search rules) (search rules) at-if3.if-count-eq2.false (search rules) (search rules)
+returns-then-count-eq3 c = none_of_three c.args.n c.args.count c.args.a c.args.b c.args.c c.args.d (search rules) (search rules) (search rules) (search rules) c.if-count-eq2.false (search rules) (search rules)
 
 pub returns : goal.returns
-returns c = let at-if3 = c in
-    let at-start = at-if3 in
-    any_last at-start.args.n at-start.args.count at-start.args.a at-start.args.b at-start.args.c at-start.args.d (search rules) (search rules) (search rules) (search rules) at-if3.if-count-eq2.false (search rules) c.if-count-eq3.false
+returns c = any_last c.args.n c.args.count c.args.a c.args.b c.args.c c.args.d (search rules) (search rules) (search rules) (search rules) c.if-count-eq2.false (search rules) c.if-count-eq3.false
