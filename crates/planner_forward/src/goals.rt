@@ -27,9 +27,9 @@ fn is_goal<'a>(
 ) -> bool
     requires plannable { Plannable nodes.now steering.now problem }
     requires rows_right { RowsRight nodes.now steering.now problem rows.old }
-    requires x_lt_max_settings { (x < max_settings) × (full < 16) }
-    ensures rows_right_2 { RowsRight nodes.now steering.now problem rows.new }
-    ensures each { Each nodes.now steering.now problem (λ net. result ≡ goal_with net full x sets) }
+    requires small { (x < max_settings) × (full < 16) }
+    ensures rows_right { RowsRight nodes.now steering.now problem rows.new }
+    ensures goal { Each nodes.now steering.now problem (λ net. result ≡ goal_with net full x sets) }
 {
     if !has(sets, full) {
         return false;
@@ -50,9 +50,9 @@ fn has_goal<'a>(
 ) -> bool
     requires plannable { Plannable nodes.now steering.now problem }
     requires rows_right { RowsRight nodes.now steering.now problem rows.old }
-    requires search_size_in_bounds { (search_size ≤ length table.now) × (full < 16) × (i < 16) }
-    ensures rows_right_2 { RowsRight nodes.now steering.now problem rows.new }
-    ensures each { Each nodes.now steering.now problem (λ net. full ≡ all_of net.targets → SlotKnown net table.now i → GoalIn net table.now i result) }
+    requires room { (search_size ≤ length table.now) × (full < 16) × (i < 16) }
+    ensures rows_right { RowsRight nodes.now steering.now problem rows.new }
+    ensures goal { Each nodes.now steering.now problem (λ net. full ≡ all_of net.targets → SlotKnown net table.now i → GoalIn net table.now i result) }
 {
     let end = setting_count(problem.width);
     let at = i * MAX_SETTINGS;
@@ -80,9 +80,9 @@ pub fn meets_goal<'a>(
 ) -> bool
     requires plannable { Plannable nodes.now steering.now problem }
     requires rows_right { RowsRight nodes.now steering.now problem rows.old }
-    requires search_size_in_bounds { (search_size ≤ length table.now) × (full < 16) × (i < 16) }
-    ensures rows_right_2 { RowsRight nodes.now steering.now problem rows.new }
-    ensures each { Each nodes.now steering.now problem (λ net. full ≡ all_of net.targets → SlotKnown net table.now i → SetsIn (λ (s : ℕ). in_slot table.now i s ≡ true) came → GoalIn net table.now i result) }
+    requires room { (search_size ≤ length table.now) × (full < 16) × (i < 16) }
+    ensures rows_right { RowsRight nodes.now steering.now problem rows.new }
+    ensures goal { Each nodes.now steering.now problem (λ net. full ≡ all_of net.targets → SlotKnown net table.now i → SetsIn (λ (s : ℕ). in_slot table.now i s ≡ true) came → GoalIn net table.now i result) }
 {
     if !has(came, full) {
         return false;

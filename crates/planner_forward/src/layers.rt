@@ -37,8 +37,8 @@ fn arrive(table: &mut [u16], seen: &mut Seen, y: usize, got: u16, i: usize)
 
 // The sets got go to each setting that one of n choices leads to.
 fn spread_choices(table: &mut [u16], seen: &mut Seen, lands: &Lands, n: usize, got: u16, i: usize)
-    requires search_size_in_bounds { (search_size ≤ length table.old) × (length seen.old ≡ max_settings) × (n ≤ 64) × (i < 16) }
-    requires by_index { (c : ℕ) → c < n → get_or lands.now c 0 < max_settings }
+    requires room { (search_size ≤ length table.old) × (length seen.old ≡ max_settings) × (n ≤ 64) × (i < 16) }
+    requires lands_small { (c : ℕ) → c < n → get_or lands.now c 0 < max_settings }
     ensures { Spread (Arrives lands.now n got) i table.old seen.old table.new seen.new }
 {
     let mut c: usize = 0;
@@ -57,10 +57,10 @@ fn spread_setting(
     seen: &mut Seen,
     i: usize,
 ) -> u16
-    requires search_size_in_bounds { (search_size ≤ length table.old) × (length seen.old ≡ max_settings) × (x < max_settings) × (i < 16) }
+    requires room { (search_size ≤ length table.old) × (length seen.old ≡ max_settings) × (x < max_settings) × (i < 16) }
     requires landing { Landing rows.now x }
-    ensures of_row { OfRow rows.now x (λ net. Spread (Leaves net x sets) i table.old seen.old table.new seen.new) }
-    ensures of_row_2 { OfRow rows.now x (λ net. SetsIn (Leaves net x sets) result) }
+    ensures spread { OfRow rows.now x (λ net. Spread (Leaves net x sets) i table.old seen.old table.new seen.new) }
+    ensures sets_in { OfRow rows.now x (λ net. SetsIn (Leaves net x sets) result) }
 {
     let mut lands: Lands = [0; MAX_CHOICES];
     let n = list_lands(rows, x, &mut lands);
@@ -83,11 +83,11 @@ fn spread_layer<'a>(
 ) -> u16
     requires plannable { Plannable nodes.now steering.now problem }
     requires rows_right { RowsRight nodes.now steering.now problem rows.old }
-    requires search_size_in_bounds { (search_size ≤ length table.old) × (length seen.old ≡ max_settings) × (start < max_settings) × (i < 16) }
-    ensures rows_right_2 { RowsRight nodes.now steering.now problem rows.new }
+    requires room { (search_size ≤ length table.old) × (length seen.old ≡ max_settings) × (start < max_settings) × (i < 16) }
+    ensures rows_right { RowsRight nodes.now steering.now problem rows.new }
     ensures only_slot { OnlySlot i table.old table.new × (length seen.new ≡ max_settings) }
-    ensures each { Each nodes.now steering.now problem (λ net. Known net (start * 16) table.old i → Spread (Next net (start * 16) table.old i) i table.old seen.old table.new seen.new) }
-    ensures each_2 { Each nodes.now steering.now problem (λ net. Known net (start * 16) table.old i → SetsIn (Next net (start * 16) table.old i) result) }
+    ensures spread { Each nodes.now steering.now problem (λ net. Known net (start * 16) table.old i → Spread (Next net (start * 16) table.old i) i table.old seen.old table.new seen.new) }
+    ensures sets_in { Each nodes.now steering.now problem (λ net. Known net (start * 16) table.old i → SetsIn (Next net (start * 16) table.old i) result) }
 {
     if i == 0 {
         know_row(nodes, steering, problem, start, rows);
@@ -119,11 +119,11 @@ pub fn find_layer<'a>(
 ) -> usize
     requires plannable { Plannable nodes.now steering.now problem }
     requires rows_right { RowsRight nodes.now steering.now problem rows.old }
-    requires search_size_in_bounds { (search_size ≤ length table.old) × ((n : ℕ) → n < search_size → get_or table.old n 0 ≡ 0) }
-    requires start_lt_max_settings { (start < max_settings) × (full < 16) }
-    ensures rows_right_2 { RowsRight nodes.now steering.now problem rows.new }
-    ensures table_len_unchanged { (length table.new ≡ length table.old) × ((n : ℕ) → search_size ≤ n → get_or table.new n 0 ≡ get_or table.old n 0) }
-    ensures each { Each nodes.now steering.now problem (λ net. SearchStarts net start full → Met net (start * 16) table.new result) }
+    requires empty { (search_size ≤ length table.old) × ((n : ℕ) → n < search_size → get_or table.old n 0 ≡ 0) }
+    requires small { (start < max_settings) × (full < 16) }
+    ensures rows_right { RowsRight nodes.now steering.now problem rows.new }
+    ensures rest_kept { (length table.new ≡ length table.old) × ((n : ℕ) → search_size ≤ n → get_or table.new n 0 ≡ get_or table.old n 0) }
+    ensures met { Each nodes.now steering.now problem (λ net. SearchStarts net start full → Met net (start * 16) table.new result) }
 {
     let mut seen: Seen = [0; MAX_SETTINGS];
     seen[start] = 1;

@@ -25,9 +25,8 @@ next_setting-x-requires c = let p = c.requires in
     (omega (arith, p, n), omega (arith, p, n), omega arith)
 
 pub loop-x-init : goal.loop-x-init
-loop-x-init c = let s = c in
-    let k = c.next_setting-x in
-    (k.ensures.most, s.requires.rows_right.0, λ net p. goal_skip net s.args.full s.args.table.now s.args.i 0 c.setting_count-end.result k.result (λ y lt. absurd (omega arith)) k.ensures)
+loop-x-init c = let k = c.next_setting-x in
+    (k.ensures.most, c.requires.rows_right, λ net p. goal_skip net c.args.full c.args.table.now c.args.i 0 c.setting_count-end.result k.result (λ y lt. absurd (omega arith)) k.ensures)
 
 pub overflow_add-sets : goal.overflow_add-sets
 overflow_add-sets c = omega (arith, c.requires, c.setting_count-end.ensures.1)
@@ -39,15 +38,17 @@ pub bounds-table-at : goal.bounds-table-at
 bounds-table-at c = omega (arith, c.requires, c.setting_count-end.ensures.1)
 
 pub is_goal-requires : goal.is_goal-requires
-is_goal-requires c = let s = c in
-    (s.requires.plannable, (c.loop-x.invariant.1, (omega (arith, c.setting_count-end.ensures.1, c.loop-x-test.true), s.requires.rows_right.1.1)))
+is_goal-requires c = record {
+  plannable = c.requires.plannable;
+  rows_right = c.loop-x.invariant.1;
+  small = (omega (arith, c.setting_count-end.ensures.1, c.loop-x-test.true), c.requires.room.1);
+}
 
 pub returns-then-is_goal : goal.returns-then-is_goal
-returns-then-is_goal c = let s = c in
-    let l = c.loop-x in
+returns-then-is_goal c = let l = c.loop-x in
     let g = c.is_goal in
     let small : l.x < 729 = omega (arith, c.setting_count-end.ensures.1, c.loop-x-test.true) in
-    (g.ensures.0, λ net p all known. goal_there net s.args.full all s.requires.rows_right.1.1 s.args.table.now s.args.i l.x small (sym (g.ensures.1 net p) ∙ c.if-is_goal.true))
+    record { rows_right = g.ensures.rows_right; goal = λ net p all known. goal_there net c.args.full all c.requires.room.1 c.args.table.now c.args.i l.x small (sym (g.ensures.goal net p) ∙ c.if-is_goal.true) }
 
 pub overflow_add-x : goal.overflow_add-x
 overflow_add-x c = omega (arith, c.setting_count-end.ensures.1, c.loop-x-test.true)
@@ -61,21 +62,19 @@ pub loop-x-smaller : goal.loop-x-smaller
 loop-x-smaller c = omega (arith, c.next_setting-x-in-loop-x.ensures.least)
 
 pub loop-x-preserved : goal.loop-x-preserved
-loop-x-preserved c = let s = c in
-    let a = s.args in
+loop-x-preserved c = let a = c.args in
     let l = c.loop-x in
     let g = c.is_goal in
     let k = c.next_setting-x-in-loop-x in (
       k.ensures.most,
-      g.ensures.0,
+      g.ensures.rows_right,
       λ net p.
           goal_skip net a.full a.table.now a.i (l.x + 1) c.setting_count-end.result k.result
-          (below_more (λ (y : ℕ). goal_with net a.full y (get_or a.table.now (a.i * 729 + y) 0) ≡ false) l.x (l.invariant.2 net p) (sym (g.ensures.1 net p) ∙ c.if-is_goal.false)) k.ensures,
+          (below_more (λ (y : ℕ). goal_with net a.full y (get_or a.table.now (a.i * 729 + y) 0) ≡ false) l.x (l.invariant.2 net p) (sym (g.ensures.goal net p) ∙ c.if-is_goal.false)) k.ensures,
     )
 
 pub returns : goal.returns
-returns c = let s = c in
-    let l = c.loop-x in (
-      l.invariant.1,
-      λ net p all known. goal_nowhere net s.args.full all s.requires.rows_right.1.1 s.args.table.now s.args.i l.x (omega (arith, settings_count net s.args.nodes.now s.args.steering.now s.args.problem p, c.setting_count-end.ensures.0)) known (l.invariant.2 net p),
-    )
+returns c = let l = c.loop-x in record {
+  rows_right = l.invariant.1;
+  goal = λ net p all known. goal_nowhere net c.args.full all c.requires.room.1 c.args.table.now c.args.i l.x (omega (arith, settings_count net c.args.nodes.now c.args.steering.now c.args.problem p, c.setting_count-end.ensures.0)) known (l.invariant.2 net p);
+}

@@ -7,14 +7,15 @@ use borrow.Author.Rules.{rules}
 use Rattle.planner_forward.proofs.goals.is_goal.Goals as goal
 
 pub returns-then-not-has : goal.returns-then-not-has
-returns-then-not-has c = let s = c in
-    (s.requires.rows_right.0, λ net p. goal_without net s.args.full s.args.x s.args.sets (sym c.has.ensures ∙ not-true c.has.result c.if-not-has.true-raw))
+returns-then-not-has c = record {
+  rows_right = c.requires.rows_right;
+  goal = λ net p. goal_without net c.args.full c.args.x c.args.sets (sym c.has.ensures ∙ not-true c.has.result c.if-not-has.true-raw);
+}
 
 pub returns : goal.returns
-returns c = let s = c in
-    let w = c.know_row in (
-      w.ensures.0,
-      λ net p.
-          goal_counted net s.args.full s.args.x s.args.sets c.number.result (sym c.has.ensures ∙ not-false c.has.result c.if-not-has.false-raw)
-          (c.number.ensures ∙ (w.ensures.0.right net p s.args.x s.requires.rows_right.1.0 w.ensures.1).count-is),
-    )
+returns c = let w = c.know_row in record {
+  rows_right = w.ensures.rows_right;
+  goal = λ net p.
+      goal_counted net c.args.full c.args.x c.args.sets c.number.result (sym c.has.ensures ∙ not-false c.has.result c.if-not-has.false-raw)
+      (c.number.ensures ∙ (w.ensures.rows_right.right net p c.args.x c.requires.small.0 w.ensures.x_after).count_is);
+}

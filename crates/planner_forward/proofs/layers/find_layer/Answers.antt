@@ -16,66 +16,70 @@ pub offset_bounds-seen-start : goal.offset_bounds-seen-start
 offset_bounds-seen-start c = omega (arith, c.requires)
 
 pub bounds-seen-start : goal.bounds-seen-start
-bounds-seen-start c = c.requires.rows_right.1.1.0
+bounds-seen-start c = c.requires.small.0
 
 pub loop-i-init : goal.loop-i-init
 loop-i-init c = let s = c in (
   omega arith,
-  s.requires.rows_right.0,
+  s.requires.rows_right,
   (refl, λ n le. refl, length-set (replicate 729 0) s.args.start 1 ∙ length-replicate {A = ℕ} 729 0),
-  λ net p st. forward_start net s.args.start s.args.full st s.args.table.now (set (replicate 729 0) s.args.start 1) s.requires.rows_right.1.0.1 (λ q. seen_start 729 s.args.start q s.requires.rows_right.1.1.0),
+  λ net p st. forward_start net s.args.start s.args.full st s.args.table.now (set (replicate 729 0) s.args.start 1) s.requires.empty.1 (λ q. seen_start 729 s.args.start q s.requires.small.0),
 )
 
 pub spread_layer-came-requires : goal.spread_layer-came-requires
 spread_layer-came-requires c = let s = c in
     let l = c.loop-i in
-    (s.requires.plannable, (l.invariant.1, (omega (arith, l.invariant.2.0, s.requires.rows_right.1.0.0), l.invariant.2.2, s.requires.rows_right.1.1.0, omega arith)))
+    record {
+      plannable = s.requires.plannable;
+      rows_right = l.invariant.1;
+      room = (omega (arith, l.invariant.2.0, s.requires.empty.0), l.invariant.2.2, s.requires.small.0, omega arith);
+    }
 
 pub shape_of-table-then-came-eq0 : goal.shape_of-table-then-came-eq0
-shape_of-table-then-came-eq0 c = c.spread_layer-came.ensures.only_slot.0.0.size ∙ c.loop-i.invariant.2.0
+shape_of-table-then-came-eq0 c = c.spread_layer-came.ensures.only_slot.0.size ∙ c.loop-i.invariant.2.0
 
 pub returns-then-came-eq0 : goal.returns-then-came-eq0
 returns-then-came-eq0 c = let s = c in
     let l = c.loop-i in
     let less : l.i < 16 = omega (arith, c.loop-i-test.true) in
-    let a = c.spread_layer-came in (
-      a.ensures.0,
-      (
-        (a.ensures.1.0.0.size ∙ l.invariant.2.0, λ n le. a.ensures.1.0.0.others n (inr (omega arith)) ∙ l.invariant.2.1 n le),
-        λ net p st.
-            let f = l.invariant.3 net p st in
-            let q = a.ensures.1.1.0 net p f.known in
-            let sets = slot_sets net p.accepted (s.args.start * 16) l.i less l.table l.seen a.new.1.1.1.1.1.0 a.new.1.1.1.1.1.1.0 f q a.result (a.ensures.1.1.1 net p f.known) in
-            met_empty net p.accepted (s.args.start * 16) l.i less l.table l.seen a.new.1.1.1.1.1.0 a.new.1.1.1.1.1.1.0 f q (rw c.if-came-eq0.true at sets),
-      ),
-    )
+    let a = c.spread_layer-came in record {
+      rows_right = a.ensures.rows_right;
+      rest_kept = (a.ensures.only_slot.0.size ∙ l.invariant.2.0, λ n le. a.ensures.only_slot.0.others n (inr (omega arith)) ∙ l.invariant.2.1 n le);
+      met = λ net p st.
+          let f = l.invariant.3 net p st in
+          let q = a.ensures.spread net p f.known in
+          let sets = slot_sets net p.accepted (s.args.start * 16) l.i less l.table l.seen a.new.table a.new.seen f q a.result (a.ensures.sets_in net p f.known) in
+          met_empty net p.accepted (s.args.start * 16) l.i less l.table l.seen a.new.table a.new.seen f q (rw c.if-came-eq0.true at sets);
+    }
 
 pub meets_goal-requires : goal.meets_goal-requires
 meets_goal-requires c = let s = c in
     let l = c.loop-i in
     let less : l.i < 16 = omega (arith, c.loop-i-test.true) in
     let a = c.spread_layer-came in
-    (s.requires.plannable, (a.ensures.0, (omega (arith, a.ensures.1.0.0.size, l.invariant.2.0, s.requires.rows_right.1.0.0), s.requires.rows_right.1.1.1, less)))
+    record {
+      plannable = s.requires.plannable;
+      rows_right = a.ensures.rows_right;
+      room = (omega (arith, a.ensures.only_slot.0.size, l.invariant.2.0, s.requires.empty.0), s.requires.small.1, less);
+    }
 
 pub shape_of-table-then-meets_goal : goal.shape_of-table-then-meets_goal
-shape_of-table-then-meets_goal c = c.spread_layer-came.ensures.only_slot.0.0.size ∙ c.loop-i.invariant.2.0
+shape_of-table-then-meets_goal c = c.spread_layer-came.ensures.only_slot.0.size ∙ c.loop-i.invariant.2.0
 
 pub returns-then-meets_goal : goal.returns-then-meets_goal
 returns-then-meets_goal c = let s = c in
     let l = c.loop-i in
     let less : l.i < 16 = omega (arith, c.loop-i-test.true) in
     let a = c.spread_layer-came in
-    let g = c.meets_goal in (
-      g.ensures.0,
-      (
-        (a.ensures.1.0.0.size ∙ l.invariant.2.0, λ n le. a.ensures.1.0.0.others n (inr (omega arith)) ∙ l.invariant.2.1 n le),
-        λ net p st.
-            let f = l.invariant.3 net p st in
-            let q = a.ensures.1.1.0 net p f.known in
-            let sets = slot_sets net p.accepted (s.args.start * 16) l.i less l.table l.seen a.new.1.1.1.1.1.0 a.new.1.1.1.1.1.1.0 f q a.result (a.ensures.1.1.1 net p f.known) in
-            met_goal net p.accepted (s.args.start * 16) l.i less l.table l.seen a.new.1.1.1.1.1.0 a.new.1.1.1.1.1.1.0 f q g.result (λ known. g.ensures.1 net p st.all known sets) c.if-meets_goal.true,
-      ),
-    )
+    let g = c.meets_goal in record {
+      rows_right = g.ensures.rows_right;
+      rest_kept = (a.ensures.only_slot.0.size ∙ l.invariant.2.0, λ n le. a.ensures.only_slot.0.others n (inr (omega arith)) ∙ l.invariant.2.1 n le);
+      met = λ net p st.
+          let f = l.invariant.3 net p st in
+          let q = a.ensures.spread net p f.known in
+          let sets = slot_sets net p.accepted (s.args.start * 16) l.i less l.table l.seen a.new.table a.new.seen f q a.result (a.ensures.sets_in net p f.known) in
+          met_goal net p.accepted (s.args.start * 16) l.i less l.table l.seen a.new.table a.new.seen f q g.result (λ known. g.ensures.goal net p st.all known sets) c.if-meets_goal.true;
+    }
 
 pub loop-i-preserved : goal.loop-i-preserved
 loop-i-preserved c = let s = c in
@@ -84,13 +88,13 @@ loop-i-preserved c = let s = c in
     let a = c.spread_layer-came in
     let g = c.meets_goal in (
       omega arith,
-      g.ensures.0,
-      (a.ensures.1.0.0.size ∙ l.invariant.2.0, λ n le. a.ensures.1.0.0.others n (inr (omega arith)) ∙ l.invariant.2.1 n le, a.ensures.1.0.1),
+      g.ensures.rows_right,
+      (a.ensures.only_slot.0.size ∙ l.invariant.2.0, λ n le. a.ensures.only_slot.0.others n (inr (omega arith)) ∙ l.invariant.2.1 n le, a.ensures.only_slot.1),
       λ net p st.
           let f = l.invariant.3 net p st in
-          let q = a.ensures.1.1.0 net p f.known in
-          let sets = slot_sets net p.accepted (s.args.start * 16) l.i less l.table l.seen a.new.1.1.1.1.1.0 a.new.1.1.1.1.1.1.0 f q a.result (a.ensures.1.1.1 net p f.known) in
-          forward_next net p.accepted (s.args.start * 16) l.i less l.table l.seen a.new.1.1.1.1.1.0 a.new.1.1.1.1.1.1.0 f q g.result (λ known. g.ensures.1 net p st.all known sets) c.if-meets_goal.false,
+          let q = a.ensures.spread net p f.known in
+          let sets = slot_sets net p.accepted (s.args.start * 16) l.i less l.table l.seen a.new.table a.new.seen f q a.result (a.ensures.sets_in net p f.known) in
+          forward_next net p.accepted (s.args.start * 16) l.i less l.table l.seen a.new.table a.new.seen f q g.result (λ known. g.ensures.goal net p st.all known sets) c.if-meets_goal.false,
     )
 
 pub shape_of-table : goal.shape_of-table
@@ -99,4 +103,8 @@ shape_of-table c = c.loop-i.invariant.2.0
 pub returns : goal.returns
 returns c = let s = c in
     let l = c.loop-i in
-    (l.invariant.1, ((l.invariant.2.0, l.invariant.2.1), λ net p st. met_nothing net (s.args.start * 16) l.i l.table l.seen (omega arith) l.invariant.0 (l.invariant.3 net p st)))
+    record {
+      rows_right = l.invariant.1;
+      rest_kept = (l.invariant.2.0, l.invariant.2.1);
+      met = λ net p st. met_nothing net (s.args.start * 16) l.i l.table l.seen (omega arith) l.invariant.0 (l.invariant.3 net p st);
+    }

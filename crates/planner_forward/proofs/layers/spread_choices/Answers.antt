@@ -9,12 +9,12 @@ use Rattle.planner_forward.proofs.layers.spread_choices.Goals as goal
 
 pub loop-c-init : goal.loop-c-init
 loop-c-init c = let s = c in
-    (omega arith, arrives_none s.args.i s.args.got s.args.lands.now s.args.table.now s.args.seen.now s.requires.search_size_in_bounds.1)
+    (omega arith, arrives_none s.args.i s.args.got s.args.lands.now s.args.table.now s.args.seen.now s.requires.room.1)
 
 pub arrive-requires : goal.arrive-requires
 arrive-requires c = let l = c.loop-c in
     let s = c in
-    (omega (arith, l.invariant.1.only.size, s.requires.search_size_in_bounds.0), l.invariant.1.seen_size, omega (arith, c.wide.ensures, s.requires.by_index l.c (omega arith)), s.requires.search_size_in_bounds.3)
+    (omega (arith, l.invariant.1.only.size, s.requires.room.0), l.invariant.1.seen_size, omega (arith, c.wide.ensures, s.requires.lands_small l.c (omega arith)), s.requires.room.3)
 
 pub loop-c-preserved : goal.loop-c-preserved
 loop-c-preserved c = let a = c in
@@ -22,8 +22,8 @@ loop-c-preserved c = let a = c in
     let s = a in (
       omega arith,
       arrives_more s.args.i l.c s.args.got s.args.lands.now s.args.table.now s.args.seen.now l.table l.seen
-          c.arrive.new.0 c.arrive.new.1.0 l.invariant.1
-          (subst (λ (y : ℕ). Spread (AtSetting y s.args.got) s.args.i l.table l.seen c.arrive.new.0 c.arrive.new.1.0)
+          c.arrive.new.table c.arrive.new.seen l.invariant.1
+          (subst (λ (y : ℕ). Spread (AtSetting y s.args.got) s.args.i l.table l.seen c.arrive.new.table c.arrive.new.seen)
           a.wide.ensures c.arrive.ensures),
     )
 

@@ -18,34 +18,36 @@ use Rattle.planner_forward.proofs.layers.spread_layer.Goals as goal
 
 pub know_row-requires : goal.know_row-requires
 know_row-requires c = let s = c in
-    (s.requires.plannable, (s.requires.rows_right.1.2, s.requires.rows_right.0))
+    record {
+      plannable = s.requires.plannable;
+      x_lt_max_settings = (s.requires.room.2, s.requires.rows_right);
+    }
 
 pub spread_setting-requires : goal.spread_setting-requires
 spread_setting-requires c = let s = c in
     let w = c.know_row.ensures in
-    (s.requires.rows_right.1, landing_of s.requires.plannable w.0 s.args.start s.requires.rows_right.1.2 w.1)
+    record {
+      room = s.requires.room;
+      landing = landing_of s.requires.plannable w.rows_right s.args.start s.requires.room.2 w.x_after;
+    }
 
 pub shape_of-table-then-i-eq0 : goal.shape_of-table-then-i-eq0
 shape_of-table-then-i-eq0 c = let s = c in
     let w = c.know_row.ensures in
-    (c.spread_setting.ensures.of_row s.requires.plannable.0 (lands_of s.requires.plannable.1 w.0 s.args.start s.requires.rows_right.1.2 w.1)).only.size
+    (c.spread_setting.ensures.spread s.requires.plannable.0 (lands_of s.requires.plannable.1 w.rows_right s.args.start s.requires.room.2 w.x_after)).only.size
 
 pub returns-then-i-eq0 : goal.returns-then-i-eq0
 returns-then-i-eq0 c = let s = c in
     let w = c.know_row.ensures in
     let r = c.spread_setting in
     let at : Each s.args.nodes.now s.args.steering.now s.args.problem (λ net. Lands net _ s.args.start) =
-    λ net p. lands_of p w.0 s.args.start s.requires.rows_right.1.2 w.1 in
-    let q = r.ensures.0 s.requires.plannable.0 (at s.requires.plannable.0 s.requires.plannable.1) in (
-      w.0,
-      (
-        (q.only, q.seen_size),
-        (
-          λ net p known. left_start net s.args.start s.args.table.now s.args.i s.args.seen.now r.new.1.1.1.0 r.new.1.1.1.1.0 c.if-i-eq0.true (r.ensures.0 net (at net p)),
-          λ net p known. sets_start net s.args.start s.args.table.now s.args.i r.result c.if-i-eq0.true (r.ensures.1 net (at net p)),
-        ),
-      ),
-    )
+    λ net p. lands_of p w.rows_right s.args.start s.requires.room.2 w.x_after in
+    let q = r.ensures.spread s.requires.plannable.0 (at s.requires.plannable.0 s.requires.plannable.1) in record {
+      rows_right = w.rows_right;
+      only_slot = (q.only, q.seen_size);
+      spread = λ net p known. left_start net s.args.start s.args.table.now s.args.i s.args.seen.now r.new.table r.new.seen c.if-i-eq0.true (r.ensures.spread net (at net p));
+      sets_in = λ net p known. sets_start net s.args.start s.args.table.now s.args.i r.result c.if-i-eq0.true (r.ensures.sets_in net (at net p));
+    }
 
 pub setting_count-end-requires : goal.setting_count-end-requires
 setting_count-end-requires c = c.requires.plannable.1.few
@@ -64,9 +66,9 @@ loop-x-init c = let s = c in
     let tab = s.args.table.now in
     let seen = s.args.seen.now in
     let i = s.args.i in
-    let none : (net : Network) → Spread (LeftBelow net tab (i - 1) 0) i tab seen tab seen = λ net. left_none net tab (i - 1) i seen s.requires.rows_right.1.1 in (
+    let none : (net : Network) → Spread (LeftBelow net tab (i - 1) 0) i tab seen tab seen = λ net. left_none net tab (i - 1) i seen s.requires.room.1 in (
       c.next_setting-x.ensures.most,
-      s.requires.rows_right.0,
+      s.requires.rows_right,
       λ net p. left_skip net tab (i - 1) i 0 seen tab seen (none net) n.result c.next_setting-x.result (omega arith) n.ensures.1 c.next_setting-x.ensures,
       λ net p. sets_skip net tab (i - 1) i 0 seen tab seen (none net) n.result c.next_setting-x.result (omega arith) n.ensures.1 c.next_setting-x.ensures 0 (sets_none net tab (i - 1) 0),
     )
@@ -83,7 +85,10 @@ bounds-table-at c = let s = c in
 
 pub know_row-requires-in-loop-x : goal.know_row-requires-in-loop-x
 know_row-requires-in-loop-x c = let s = c in
-    (s.requires.plannable, (omega (arith, c.setting_count-end.ensures.1), c.loop-x.invariant.1))
+    record {
+      plannable = s.requires.plannable;
+      x_lt_max_settings = (omega (arith, c.setting_count-end.ensures.1), c.loop-x.invariant.1);
+    }
 
 pub spread_setting-got-requires : goal.spread_setting-got-requires
 spread_setting-got-requires c = let s = c in
@@ -91,7 +96,10 @@ spread_setting-got-requires c = let s = c in
     let q = l.invariant.2 s.requires.plannable.0 s.requires.plannable.1 in
     let small : l.x < 729 = omega (arith, c.setting_count-end.ensures.1) in
     let w = c.know_row-in-loop-x.ensures in
-    ((omega (arith, q.only.size, s.requires.rows_right.1.0), q.seen_size, small, s.requires.rows_right.1.3), landing_of s.requires.plannable w.0 l.x small w.1)
+    record {
+      room = (omega (arith, q.only.size, s.requires.room.0), q.seen_size, small, s.requires.room.3);
+      landing = landing_of s.requires.plannable w.rows_right l.x small w.x_after;
+    }
 
 pub overflow_add-x : goal.overflow_add-x
 overflow_add-x c = omega (arith, c.setting_count-end.ensures.1)
@@ -103,7 +111,7 @@ next_setting-x-requires-in-loop-x c = let s = c in
     let w = c.know_row-in-loop-x.ensures in
     let test = c.loop-x-test.true in
     let small : l.x < 729 = omega (arith, n.ensures.1, test) in
-    let kept = (c.spread_setting-got.ensures.of_row s.requires.plannable.0 (lands_of s.requires.plannable.1 w.0 l.x small w.1)).only.size in
+    let kept = (c.spread_setting-got.ensures.spread s.requires.plannable.0 (lands_of s.requires.plannable.1 w.rows_right l.x small w.x_after)).only.size in
     let before = (l.invariant.2 s.requires.plannable.0 s.requires.plannable.1).only.size in
     (omega (arith, s.requires, n.ensures.1, kept, before), omega (arith, s.requires, n.ensures.1), omega (arith, test))
 
@@ -125,15 +133,15 @@ loop-x-preserved c = let s = c in
     let small : l.x < 729 = omega (arith, n.ensures.1, c.loop-x-test.true) in
     let At : Network → Type 0 = λ net. Prepared net s.args.nodes.now s.args.steering.now s.args.problem in
     let same : (net : Network) → At net → sets ≡ get_or tab (j * 729 + l.x) 0 = λ net p. (l.invariant.2 net p).only.others (j * 729 + l.x) (inl (omega (arith, small, later))) in
-    let lands : (net : Network) → At net → Lands net _ l.x = λ net p. lands_of p w.0 l.x small w.1 in
-    let more : (net : Network) → At net → Spread (LeftBelow net tab j (l.x + 1)) s.args.i tab seen m.new.1.1.1.0 m.new.1.1.1.1.0 =
-    λ net p. left_more net tab j s.args.i l.x seen l.table l.seen (l.invariant.2 net p) sets m.new.1.1.1.0 m.new.1.1.1.1.0 (same net p) (m.ensures.0 net (lands net p)) in (
+    let lands : (net : Network) → At net → Lands net _ l.x = λ net p. lands_of p w.rows_right l.x small w.x_after in
+    let more : (net : Network) → At net → Spread (LeftBelow net tab j (l.x + 1)) s.args.i tab seen m.new.table m.new.seen =
+    λ net p. left_more net tab j s.args.i l.x seen l.table l.seen (l.invariant.2 net p) sets m.new.table m.new.seen (same net p) (m.ensures.spread net (lands net p)) in (
       k.ensures.most,
-      w.0,
+      w.rows_right,
       λ net p. left_skip net tab j s.args.i (l.x + 1) seen _ _ (more net p) n.result k.result (omega (arith, later)) n.ensures.1 k.ensures,
       λ net p.
           sets_skip net tab j s.args.i (l.x + 1) seen _ _ (more net p) n.result k.result (omega (arith, later)) n.ensures.1 k.ensures _
-          (sets_more net tab j l.x l.all (l.invariant.3 net p) sets m.result (same net p) (m.ensures.1 net (lands net p))),
+          (sets_more net tab j l.x l.all (l.invariant.3 net p) sets m.result (same net p) (m.ensures.sets_in net (lands net p))),
     )
 
 pub shape_of-table : goal.shape_of-table
@@ -143,17 +151,14 @@ shape_of-table c = let s = c in
 pub returns : goal.returns
 returns c = let s = c in
     let n = c.setting_count-end in
-    let l = c.loop-x in (
-      l.invariant.1,
-      (
-        ((l.invariant.2 s.requires.plannable.0 s.requires.plannable.1).only, (l.invariant.2 s.requires.plannable.0 s.requires.plannable.1).seen_size),
-        (
-          λ net p known.
-              left_all net (s.args.start * 16) s.args.table.now s.args.i l.x s.args.seen.now l.table l.seen (omega arith) (omega (arith, n.ensures.1))
-              (omega (arith, settings_count net s.args.nodes.now s.args.steering.now s.args.problem p, n.ensures.0)) known (l.invariant.2 net p),
-          λ net p known.
-              sets_all net (s.args.start * 16) s.args.table.now s.args.i l.x l.all (omega arith)
-              (omega (arith, settings_count net s.args.nodes.now s.args.steering.now s.args.problem p, n.ensures.0)) known (l.invariant.3 net p),
-        ),
-      ),
-    )
+    let l = c.loop-x in
+    let one = l.invariant.2 s.requires.plannable.0 s.requires.plannable.1 in record {
+      rows_right = l.invariant.1;
+      only_slot = (one.only, one.seen_size);
+      spread = λ net p known.
+          left_all net (s.args.start * 16) s.args.table.now s.args.i l.x s.args.seen.now l.table l.seen (omega arith) (omega (arith, n.ensures.1))
+          (omega (arith, settings_count net s.args.nodes.now s.args.steering.now s.args.problem p, n.ensures.0)) known (l.invariant.2 net p);
+      sets_in = λ net p known.
+          sets_all net (s.args.start * 16) s.args.table.now s.args.i l.x l.all (omega arith)
+          (omega (arith, settings_count net s.args.nodes.now s.args.steering.now s.args.problem p, n.ensures.0)) known (l.invariant.3 net p);
+    }
