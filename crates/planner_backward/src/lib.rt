@@ -30,9 +30,9 @@ fn goal_sets<'a>(
 ) -> u16
     requires plannable { Plannable nodes.now steering.now problem }
     requires rows_right { RowsRight nodes.now steering.now problem rows.old }
-    requires x_lt_max_settings { (x < max_settings) × (full < 16) }
-    ensures rows_right_2 { RowsRight nodes.now steering.now problem rows.new }
-    ensures each { Each nodes.now steering.now problem (λ net. full ≡ all_of net.targets → FilteredSets (sys_of net).goal x sets result) }
+    requires small { (x < max_settings) × (full < 16) }
+    ensures rows_right { RowsRight nodes.now steering.now problem rows.new }
+    ensures filtered { Each nodes.now steering.now problem (λ net. full ≡ all_of net.targets → FilteredSets (sys_of net).goal x sets result) }
 {
     if !has(sets, full) {
         return 0;
@@ -46,8 +46,8 @@ fn goal_sets<'a>(
 
 // All sets in slot i that n choices lead to.
 fn union_of(table: &[u16], i: usize, lands: &Lands, n: usize) -> u16
-    requires search_size_in_bounds { (search_size ≤ length table.now) × (n ≤ 64) × (i < 16) }
-    requires by_index { (c : ℕ) → c < n → get_or lands.now c 0 < max_settings }
+    requires room { (search_size ≤ length table.now) × (n ≤ 64) × (i < 16) }
+    requires lands_small { (c : ℕ) → c < n → get_or lands.now c 0 < max_settings }
     ensures { UnionOf table.now i lands.now n result }
 {
     let mut all: u16 = 0;
@@ -61,7 +61,7 @@ fn union_of(table: &[u16], i: usize, lands: &Lands, n: usize) -> u16
 
 // Of these sets, those with which an operation in setting x leads into slot i.
 fn useful_sets(rows: &Rows, x: usize, sets: u16, table: &[u16], i: usize) -> u16
-    requires search_size_in_bounds { (search_size ≤ length table.now) × (x < max_settings) × (i < 16) }
+    requires room { (search_size ≤ length table.now) × (x < max_settings) × (i < 16) }
     requires landing { Landing rows.now x }
     ensures { OfRow rows.now x (λ net. FilteredSets (enters net table.now i) x sets result) }
 {
@@ -86,9 +86,9 @@ fn kept_sets<'a>(
 ) -> u16
     requires plannable { Plannable nodes.now steering.now problem }
     requires rows_right { RowsRight nodes.now steering.now problem rows.old }
-    requires search_size_in_bounds { (search_size ≤ length table.now) × (full < 16) × (d ≤ 16) × (i < d) × (x < max_settings) }
-    ensures rows_right_2 { RowsRight nodes.now steering.now problem rows.new }
-    ensures each { Each nodes.now steering.now problem (λ net. full ≡ all_of net.targets → FilteredSets (leads net table.now d i) x sets result) }
+    requires room { (search_size ≤ length table.now) × (full < 16) × (d ≤ 16) × (i < d) × (x < max_settings) }
+    ensures rows_right { RowsRight nodes.now steering.now problem rows.new }
+    ensures filtered { Each nodes.now steering.now problem (λ net. full ≡ all_of net.targets → FilteredSets (leads net table.now d i) x sets result) }
 {
     if i + 1 == d {
         return goal_sets(nodes, steering, problem, rows, full, x, sets);
@@ -111,9 +111,9 @@ fn keep_slot<'a>(
 )
     requires plannable { Plannable nodes.now steering.now problem }
     requires rows_right { RowsRight nodes.now steering.now problem rows.old }
-    requires search_size_in_bounds { (search_size ≤ length table.old) × (full < 16) × (d ≤ 16) × (i < d) }
-    ensures rows_right_2 { RowsRight nodes.now steering.now problem rows.new }
-    ensures each { Each nodes.now steering.now problem (λ net. full ≡ all_of net.targets → SlotKnown net table.old i → Filtered (leads net table.old d i) i table.old table.new) }
+    requires room { (search_size ≤ length table.old) × (full < 16) × (d ≤ 16) × (i < d) }
+    ensures rows_right { RowsRight nodes.now steering.now problem rows.new }
+    ensures filtered { Each nodes.now steering.now problem (λ net. full ≡ all_of net.targets → SlotKnown net table.old i → Filtered (leads net table.old d i) i table.old table.new) }
 {
     let end = setting_count(problem.width);
     let at = i * MAX_SETTINGS;
@@ -138,9 +138,9 @@ pub fn keep_all<'a>(
 )
     requires plannable { Plannable nodes.now steering.now problem }
     requires rows_right { RowsRight nodes.now steering.now problem rows.old }
-    requires search_size_in_bounds { (search_size ≤ length table.old) × (full < 16) × (d ≤ 16) }
-    ensures rows_right_2 { RowsRight nodes.now steering.now problem rows.new }
-    ensures each { Each nodes.now steering.now problem (λ net. SearchStarts net start full → Met net (start * 16) table.old d → Useful net (start * 16) d table.old table.new) }
+    requires room { (search_size ≤ length table.old) × (full < 16) × (d ≤ 16) }
+    ensures rows_right { RowsRight nodes.now steering.now problem rows.new }
+    ensures useful { Each nodes.now steering.now problem (λ net. SearchStarts net start full → Met net (start * 16) table.old d → Useful net (start * 16) d table.old table.new) }
 {
     let mut i = d;
     while 0 < i {

@@ -13,22 +13,26 @@ use Rattle.planner_backward.proofs.keep_all.Goals as goal
 
 pub loop-i-init : goal.loop-i-init
 loop-i-init c = let p = c in
-    (omega arith, refl, p.requires.rows_right.0, λ net q starts met. kept_none net (p.args.start * 16) p.args.d p.args.table.now)
+    (omega arith, refl, p.requires.rows_right, λ net q starts met. kept_none net (p.args.start * 16) p.args.d p.args.table.now)
 
 pub keep_slot-requires : goal.keep_slot-requires
 keep_slot-requires c = let p = c in
-    (p.requires.plannable, (c.loop-i.invariant.2, (omega arith, omega arith, omega arith, omega arith)))
+    record {
+      plannable = p.requires.plannable;
+      rows_right = c.loop-i.invariant.2;
+      room = (omega arith, omega arith, omega arith, omega arith);
+    }
 
 pub loop-i-preserved : goal.loop-i-preserved
 loop-i-preserved c = let p = c in
     let l = c.loop-i in
     let u = c.keep_slot in (
       omega arith,
-      u.auto.1.1.1.1.1.0 ∙ l.invariant.1,
-      u.ensures.0,
+      u.auto.table ∙ l.invariant.1,
+      u.ensures.rows_right,
       λ net q starts met.
           kept_next net (p.args.start * 16) p.args.d p.args.table.now (l.i - 1) l.i l.table (omega arith) l.invariant.0 (omega arith) met (l.invariant.3 net q starts met)
-          _ (u.ensures.1 net q starts.all),
+          _ (u.ensures.filtered net q starts.all),
     )
 
 pub shape_of-table : goal.shape_of-table
@@ -36,7 +40,7 @@ shape_of-table c = c.loop-i.invariant.1
 
 pub returns : goal.returns
 returns c = let p = c in
-    let l = c.loop-i in (
-      l.invariant.2,
-      λ net q starts met. kept_all net (p.args.start * 16) p.args.d p.args.table.now l.i l.table (omega arith) (l.invariant.3 net q starts met),
-    )
+    let l = c.loop-i in record {
+      rows_right = l.invariant.2;
+      useful = λ net q starts met. kept_all net (p.args.start * 16) p.args.d p.args.table.now l.i l.table (omega arith) (l.invariant.3 net q starts met);
+    }

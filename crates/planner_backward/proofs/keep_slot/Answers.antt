@@ -29,7 +29,7 @@ loop-x-init c = let p = c in
     let k = c.next_setting-x in (
       k.ensures.most,
       refl,
-      p.requires.rows_right.0,
+      p.requires.rows_right,
       λ net q all.
           let test = leads net a.table.now a.d a.i in
           filtering_skip test a.i 0 a.table.now a.table.now (filtering_none test a.i a.table.now) n.result k.result n.ensures.1 k.ensures,
@@ -38,7 +38,11 @@ loop-x-init c = let p = c in
 pub kept_sets-requires : goal.kept_sets-requires
 kept_sets-requires c = let p = c in
     let l = c.loop-x in
-    (p.requires.plannable, (l.invariant.2, (omega (arith, p.requires.rows_right.1, l.invariant.1), p.requires.rows_right.1.1, p.requires.rows_right.1.2, p.requires.rows_right.1.3, omega (arith, c.setting_count-end.ensures.1, c.loop-x-test.true))))
+    record {
+      plannable = p.requires.plannable;
+      rows_right = l.invariant.2;
+      room = (omega (arith, p.requires.room, l.invariant.1), p.requires.room.1, p.requires.room.2, p.requires.room.3, omega (arith, c.setting_count-end.ensures.1, c.loop-x-test.true));
+    }
 
 pub next_setting-x-requires-in-loop-x : goal.next_setting-x-requires-in-loop-x
 next_setting-x-requires-in-loop-x c = let p = c.requires in
@@ -55,17 +59,17 @@ loop-x-preserved c = let p = c in
     let old = a.table.now in
     let l = c.loop-x in
     let n = c.setting_count-end in
-    let w = c.Kept-sets in
+    let w = c.kept_sets in
     let k = c.next_setting-x-in-loop-x in
     let small : l.x < 729 = omega (arith, n.ensures.1, c.loop-x-test.true) in (
       k.ensures.most,
       simp length-set l.invariant.1,
-      w.ensures.0,
+      w.ensures.rows_right,
       λ net q all.
           let h = l.invariant.3 net q all in
           let test = leads net old a.d a.i in
-          let more = filtering_more test a.i l.x old l.table h w.result (omega (arith, p.requires.rows_right.1, l.invariant.1)) (omega (arith, p.requires.rows_right.1)) small
-          (filtered_by test _ (λ s. leads_same net old l.table a.d a.i s h.others) l.x _ w.result (w.ensures.1 net q all)) in
+          let more = filtering_more test a.i l.x old l.table h w.result (omega (arith, p.requires.room, l.invariant.1)) (omega (arith, p.requires.room)) small
+          (filtered_by test _ (λ s. leads_same net old l.table a.d a.i s h.others) l.x _ w.result (w.ensures.filtered net q all)) in
           filtering_skip test a.i (l.x + 1) old _ more n.result k.result n.ensures.1 k.ensures,
     )
 
@@ -75,8 +79,8 @@ shape_of-table c = c.loop-x.invariant.1
 pub returns : goal.returns
 returns c = let l = c.loop-x in
     let p = c in
-    let a = p.args in (
-      l.invariant.2,
-      λ net q all known. filtering_all (leads net a.table.now a.d a.i) a.i l.x _ l.table (l.invariant.3 net q all) l.invariant.1
-          (λ s e. omega (arith, known s e, settings_count net _ _ _ q, c.setting_count-end.ensures.0)),
-    )
+    let a = p.args in record {
+      rows_right = l.invariant.2;
+      filtered = λ net q all known. filtering_all (leads net a.table.now a.d a.i) a.i l.x _ l.table (l.invariant.3 net q all) l.invariant.1
+          (λ s e. omega (arith, known s e, settings_count net _ _ _ q, c.setting_count-end.ensures.0));
+    }

@@ -14,19 +14,19 @@ loop-c-init c = let p = c in (search rules, union_none p.args.table.now p.args.i
 pub overflow_add-all : goal.overflow_add-all
 overflow_add-all c =
     let small : c.wide.result < 729 =
-        rw c.wide.ensures (c.requires.by_index c.loop-c.c c.loop-c-test.true) in
+    rw c.wide.ensures (c.requires.lands_small c.loop-c.c c.loop-c-test.true) in
     omega (arith, small)
 
 pub offset_bounds-table-i : goal.offset_bounds-table-i
 offset_bounds-table-i c =
     let small : c.wide.result < 729 =
-        rw c.wide.ensures (c.requires.by_index c.loop-c.c c.loop-c-test.true) in
+    rw c.wide.ensures (c.requires.lands_small c.loop-c.c c.loop-c-test.true) in
     omega (arith, small)
 
 pub bounds-table-i : goal.bounds-table-i
 bounds-table-i c =
     let small : c.wide.result < 729 =
-        rw c.wide.ensures (c.requires.by_index c.loop-c.c c.loop-c-test.true) in
+    rw c.wide.ensures (c.requires.lands_small c.loop-c.c c.loop-c-test.true) in
     omega (arith, small)
 
 pub loop-c-preserved : goal.loop-c-preserved

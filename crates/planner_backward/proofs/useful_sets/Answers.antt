@@ -8,12 +8,15 @@ use Rattle.planner_backward.proofs.useful_sets.Goals as goal
 
 pub list_lands-n-requires : goal.list_lands-n-requires
 list_lands-n-requires c = let p = c in
-    (refl, p.requires.search_size_in_bounds.1, p.requires.landing)
+    (refl, p.requires.room.1, p.requires.landing)
 
 pub union_of-all-requires : goal.union_of-all-requires
 union_of-all-requires c = let p = c in
     let l = c.list_lands-n.ensures in
-    ((p.requires.search_size_in_bounds.0, l.most, p.requires.search_size_in_bounds.2), listed_small p.requires.landing.1 l)
+    record {
+      room = (p.requires.room.0, l.most, p.requires.room.2);
+      lands_small = listed_small p.requires.landing.1 l;
+    }
 
 pub kept-requires : goal.kept-requires
 kept-requires c = gain_read_small c.requires.landing.1 c.number.result c.number.ensures
