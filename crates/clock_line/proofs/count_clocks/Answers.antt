@@ -16,7 +16,7 @@ pub slice_bounds-equal-end : goal.slice_bounds-equal-end
 slice_bounds-equal-end c = omega (arith, c.room_for-n.ensures.fits (omega arith))
 
 pub returns-then-not-equal : goal.returns-then-not-equal
-returns-then-not-equal c = not_tested _ _ c.room_for-n.ensures (λ t. true_false (sym t.word ∙ sym c.equal.ensures ∙ not-true _ c.if-not-equal.true-raw))
+returns-then-not-equal c = not_tested _ _ c.room_for-n.ensures (λ t. true_false (sym t.word ∙ sym c.equal.ensures ∙ c.if-not-equal.true))
 
 pub overflow_add-tms_end : goal.overflow_add-tms_end
 overflow_add-tms_end c = let i = c in
@@ -28,7 +28,7 @@ all_in-requires c = let i = c in
     omega (arith, i.room_for-n.ensures.fits (omega (arith, i.if-n-eq0.false)))
 
 pub returns-then-not-all_in : goal.returns-then-not-all_in
-returns-then-not-all_in c = not_tested _ _ c.room_for-n.ensures (no_tms _ _ (sym c.all_in.ensures ∙ not-true _ c.if-not-all_in.true-raw))
+returns-then-not-all_in c = not_tested _ _ c.room_for-n.ensures (no_tms _ _ (sym c.all_in.ensures ∙ c.if-not-all_in.true))
 
 pub bounds-line-tms_end : goal.bounds-line-tms_end
 bounds-line-tms_end c = let i = c in
@@ -47,7 +47,7 @@ all_in-requires-2 c = let i = c in
     omega (arith, i.room_for-n.ensures.fits (omega (arith, i.if-n-eq0.false)))
 
 pub returns-then-not-all_in-2 : goal.returns-then-not-all_in-2
-returns-then-not-all_in-2 c = not_tested _ _ c.room_for-n.ensures (no_tdi _ _ (sym c.all_in-2.ensures ∙ not-true _ c.if-not-all_in-2.true-raw))
+returns-then-not-all_in-2 c = not_tested _ _ c.room_for-n.ensures (no_tdi _ _ (sym c.all_in-2.ensures ∙ c.if-not-all_in-2.true))
 
 pub returns : goal.returns
 returns c = let t = c in
@@ -56,5 +56,5 @@ returns c = let t = c in
     let r = i.room_for-n.ensures in
     let some-clock : 1 ≤ i.room_for-n.result = omega (arith, i.if-n-eq0.false) in
     counted _ _ (r.fits some-clock) (r.short some-clock) some-clock
-    (passed _ _ (r.fits some-clock) (sym w.equal.ensures ∙ not-false _ w.if-not-equal.false-raw) c.if-line-tms_end-ne9.false (leb-true _ _ (sym t.all_in.ensures ∙ not-false _ t.if-not-all_in.false-raw))
-    (leb-true _ _ (sym c.all_in-2.ensures ∙ not-false _ c.if-not-all_in-2.false-raw)))
+    (passed _ _ (r.fits some-clock) (sym w.equal.ensures ∙ w.if-not-equal.false) c.if-line-tms_end-ne9.false (leb-true _ _ (sym t.all_in.ensures ∙ t.if-not-all_in.false))
+    (leb-true _ _ (sym c.all_in-2.ensures ∙ c.if-not-all_in-2.false)))
