@@ -20,40 +20,34 @@ pub stretch_end-end-requires : goal.stretch_end-end-requires
 stretch_end-end-requires c = c.loop-i-test.true
 
 pub overflow_sub-end : goal.overflow_sub-end
-overflow_sub-end c = omega (arith, c.stretch_end-end.ensures.some-clock)
+overflow_sub-end c = omega (arith, c.stretch_end-end.ensures.some_clock)
 
 pub bounds-tms-end : goal.bounds-tms-end
-bounds-tms-end c = omega (arith, c.stretch_end-end.ensures.some-clock, c.stretch_end-end.ensures.within)
+bounds-tms-end c = omega (arith, c.stretch_end-end.ensures.some_clock, c.stretch_end-end.ensures.within)
 
 pub next_state-next-requires : goal.next_state-next-requires
 next_state-next-requires c = c.loop-i.invariant.1
 
 pub overflow_sub-end-in-loop-i : goal.overflow_sub-end-in-loop-i
-overflow_sub-end-in-loop-i c = omega (arith, c.stretch_end-end.ensures.some-clock)
+overflow_sub-end-in-loop-i c = omega (arith, c.stretch_end-end.ensures.some_clock)
 
 pub passed-then-requires : goal.passed-then-requires
 passed-then-requires c = let v = c.loop-i.invariant in (v.2, v.3, omega (arith, c.stretch_end-end.ensures.within, c.requires.3))
 
 pub returns-in-Offends : goal.returns-in-Offends
-returns-in-Offends c =
-    let stretch : IsStretch c.loop-i.now.state (drop c.loop-i.i c.args.tms.now) (c.stretch_end-end.result - c.loop-i.i) c.next_state-next.result =
-        stretch_of _ _ _ _ _ c.stretch_end-end.ensures c.next_state-next.ensures in
-    let s = c in
-    let l = s.loop-i in
-    counts_stop _ (progress_for l.now) s.args.tms.now l.i _ _ l.invariant.4 (stretch s) (sym (ap followed_for c.in-Offends.is) ∙ c.passed-then.ensures)
+returns-in-Offends c = let l = c.loop-i in
+    counts_stop _ (progress_for l.now) c.args.tms.now l.i _ _ l.invariant.4 (stretch_of _ _ _ _ _ c.stretch_end-end.ensures c.next_state-next.ensures)
+    (sym (ap followed_for c.in-Offends.is) ∙ c.passed-then.ensures)
 
 pub loop-i-smaller : goal.loop-i-smaller
-loop-i-smaller c = let e = c.stretch_end-end.ensures in omega (arith, e.some-clock, e.within)
+loop-i-smaller c = let e = c.stretch_end-end.ensures in omega (arith, e.some_clock, e.within)
 
 pub loop-i-preserved : goal.loop-i-preserved
 loop-i-preserved c =
-    let stretch : IsStretch c.loop-i.now.state (drop c.loop-i.i c.args.tms.now) (c.stretch_end-end.result - c.loop-i.i) c.next_state-next.result =
-        stretch_of _ _ _ _ _ c.stretch_end-end.ensures c.next_state-next.ensures in
-    let s = c in
-    let l = s.loop-i in
-    let q = c.then-1.given in
-    let on = counts_on _ (progress_for l.now) s.args.tms.now l.i _ _ l.invariant.4 (stretch s) (progress_for q.0.0) (sym (ap followed_for q.1) ∙ c.passed-then.ensures) in
-    (s.stretch_end-end.ensures.within, rw on.state (stretch_small _ _ _ _ (stretch s)), on.limits.few, on.limits.short, on.whole)
+    let l = c.loop-i in
+    let stretch = stretch_of _ _ _ _ _ c.stretch_end-end.ensures c.next_state-next.ensures in
+    let on = counts_on _ (progress_for l.now) c.args.tms.now l.i _ _ l.invariant.4 stretch (progress_for c.in-To.q) (sym (ap followed_for c.in-To.is) ∙ c.passed-then.ensures) in
+    (c.stretch_end-end.ensures.within, rw on.state (stretch_small _ _ _ _ stretch), on.limits.few, on.limits.short, on.whole)
 
 pub returns : goal.returns
 returns c = counts_end _ _ _ _ c.loop-i.invariant.4 c.loop-i-test.false

@@ -8,7 +8,7 @@ use Rattle.clock_follower.proofs.passed.Goals as goal
 
 pub returns-then-not-is_counted : goal.returns-then-not-is_counted
 returns-then-not-is_counted c = let b = c in
-    counted_nothing (progress_for b.args.p) b.args.count b.args.next (c.is_counted.ensures (not-true _ c.if-not-is_counted.true-raw)) (record { few = b.requires.0; short = b.requires.1 })
+    counted_nothing (progress_for b.args.p) b.args.count b.args.next (c.is_counted.ensures c.if-not-is_counted.true) (record { few = b.requires.0; short = b.requires.1 })
 
 pub returns-then-offends : goal.returns-then-offends
 returns-then-offends c = stops _ _ _ c.moved-q.ensures c.offends.ensures c.if-offends.true

@@ -11,66 +11,59 @@ use Rattle.clock_follower.proofs.Playing.{PlayedTo, played_start, played_end, pl
 use Rattle.clock_follower.proofs.play.Goals as goal
 
 pub loop-i-init : goal.loop-i-init
-loop-i-init c = let p = c.requires in
-    played_start (progress_for c.args.p) _ _ _ _ p.0.0 (record { few = p.0.1; short = p.0.2 }) p.1.2
+loop-i-init c = let s = c.requires.state_bound in
+    played_start (progress_for c.args.p) _ _ _ _ s.0 (record { few = s.1; short = s.2 }) c.requires.tdi_len.2
 
 pub stretch_end-end-requires : goal.stretch_end-end-requires
 stretch_end-end-requires c = c.loop-i-test.true
 
 pub overflow_sub-end : goal.overflow_sub-end
-overflow_sub-end c = omega (arith, c.stretch_end-end.ensures.some-clock)
+overflow_sub-end c = omega (arith, c.stretch_end-end.ensures.some_clock)
 
 pub bounds-tms-end : goal.bounds-tms-end
-bounds-tms-end c = omega (arith, c.stretch_end-end.ensures.some-clock, c.stretch_end-end.ensures.within)
+bounds-tms-end c = omega (arith, c.stretch_end-end.ensures.some_clock, c.stretch_end-end.ensures.within)
 
 pub next_state-next-requires : goal.next_state-next-requires
 next_state-next-requires c = c.loop-i.invariant.written.small
 
 pub overflow_sub-end-in-loop-i : goal.overflow_sub-end-in-loop-i
-overflow_sub-end-in-loop-i c = omega (arith, c.stretch_end-end.ensures.some-clock)
+overflow_sub-end-in-loop-i c = omega (arith, c.stretch_end-end.ensures.some_clock)
 
 pub passed-then-requires : goal.passed-then-requires
-passed-then-requires c = let l = c in
-    (l.loop-i.invariant.limits.few, l.loop-i.invariant.limits.short, omega (arith, c.stretch_end-end.ensures.within, l.requires.state_bound.3))
+passed-then-requires c = let l = c.loop-i.invariant.limits in
+    (l.few, l.short, omega (arith, c.stretch_end-end.ensures.within, c.requires.state_bound.3))
 
 pub shape_of-plan-in-Offends : goal.shape_of-plan-in-Offends
 shape_of-plan-in-Offends c = c.loop-i.invariant.written.size
 
 pub returns-in-Offends : goal.returns-in-Offends
-returns-in-Offends c = let t = c in
-    let l = t in
-    let p = l.requires in
-    played_stop (progress_for l.args.p) _ _ _ _ _ (progress_for l.loop-i.now) _ _ l.loop-i.invariant p.1.0 p.1.1 _ _ t.stretch_end-end.ensures t.next_state-next.ensures
+returns-in-Offends c = let p = c.requires.tdi_len in
+    played_stop (progress_for c.args.p) _ _ _ _ _ (progress_for c.loop-i.now) _ _ c.loop-i.invariant p.0 p.1 _ _ c.stretch_end-end.ensures c.next_state-next.ensures
     (sym (ap followed_for c.in-Offends.is) ∙ c.passed-then.ensures)
 
 pub slice_bounds-put_stretch-count : goal.slice_bounds-put_stretch-count
-slice_bounds-put_stretch-count c = omega (arith, c.stretch_end-end.ensures.some-clock)
+slice_bounds-put_stretch-count c = omega (arith, c.stretch_end-end.ensures.some_clock)
 
 pub slice_bounds-put_stretch-start : goal.slice_bounds-put_stretch-start
-slice_bounds-put_stretch-start c = omega (arith, c.stretch_end-end.ensures.some-clock)
+slice_bounds-put_stretch-start c = omega (arith, c.stretch_end-end.ensures.some_clock)
 
 pub slice_bounds-put_stretch-end : goal.slice_bounds-put_stretch-end
 slice_bounds-put_stretch-end c = omega (arith, c.stretch_end-end.ensures.within, c.requires.tdi_len.0)
 
 pub put_stretch-at-requires : goal.put_stretch-at-requires
-put_stretch-at-requires c = let k = c in
-    let t = k in
-    let l = t in
-    let p = l.requires in
-    played_fits (progress_for l.args.p) _ _ _ _ _ (progress_for l.loop-i.now) _ _ l.loop-i.invariant p.1.0 p.1.1 _ _ t.stretch_end-end.ensures t.next_state-next.ensures
-    (progress_for k.in-To.q) (sym (ap followed_for k.in-To.is) ∙ k.passed-then.ensures) p.1.3
+put_stretch-at-requires c = let p = c.requires.tdi_len in
+    played_fits (progress_for c.args.p) _ _ _ _ _ (progress_for c.loop-i.now) _ _ c.loop-i.invariant p.0 p.1 _ _ c.stretch_end-end.ensures c.next_state-next.ensures
+    (progress_for c.in-To.q) (sym (ap followed_for c.in-To.is) ∙ c.passed-then.ensures) p.3
 
 pub loop-i-smaller : goal.loop-i-smaller
 loop-i-smaller c = let e = c.stretch_end-end.ensures in
-    omega (arith, e.some-clock, e.within)
+    omega (arith, e.some_clock, e.within)
 
 pub loop-i-preserved : goal.loop-i-preserved
-loop-i-preserved c = let k = c in
-    let t = k in
-    let l = t in
-    let p = l.requires in
-    played_on (progress_for l.args.p) _ _ _ _ _ (progress_for l.loop-i.now) _ _ l.loop-i.invariant p.1.0 p.1.1 _ _ t.stretch_end-end.ensures t.next_state-next.ensures
-    (progress_for k.in-To.q) (sym (ap followed_for k.in-To.is) ∙ k.passed-then.ensures) p.1.3 _ _ c.put_stretch-at.ensures
+loop-i-preserved c = let p = c.requires.tdi_len in
+    let w = c.put_stretch-at.ensures in
+    played_on (progress_for c.args.p) _ _ _ _ _ (progress_for c.loop-i.now) _ _ c.loop-i.invariant p.0 p.1 _ _ c.stretch_end-end.ensures c.next_state-next.ensures
+    (progress_for c.in-To.q) (sym (ap followed_for c.in-To.is) ∙ c.passed-then.ensures) p.3 _ _ (w.value, w.plan_after)
 
 pub shape_of-plan : goal.shape_of-plan
 shape_of-plan c = c.loop-i.invariant.written.size

@@ -11,7 +11,9 @@ pub put-requires : goal.put-requires
 put-requires c = omega (arith, c.requires, ap length (entry_capture _ c.if-next-eq-CAPTURE_DR.true))
 
 pub returns-then-next-eq-CAPTURE_DR : goal.returns-then-next-eq-CAPTURE_DR
-returns-then-next-eq-CAPTURE_DR c = wrote_as _ _ (entry_capture _ c.if-next-eq-CAPTURE_DR.true) c.put.ensures
+returns-then-next-eq-CAPTURE_DR c = let w = wrote_as _ _ (entry_capture _ c.if-next-eq-CAPTURE_DR.true) (c.put.ensures.value, c.put.ensures.buf_after) in
+    record { value = w.0; plan_after = w.1 }
 
 pub returns : goal.returns
-returns c = wrote_none _ _ (entry_none _ c.if-next-eq-CAPTURE_DR.false)
+returns c = let w = wrote_none _ _ (entry_none _ c.if-next-eq-CAPTURE_DR.false) in
+    record { value = w.0; plan_after = w.1 }

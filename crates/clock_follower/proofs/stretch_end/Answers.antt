@@ -13,14 +13,14 @@ use Rattle.clock_follower.proofs.stretch_end.Goals as goal
 pub overflow_add-result-else-end-tms : goal.overflow_add-result-else-end-tms
 overflow_add-result-else-end-tms c =
     let run_inside : c.zeros_end-end.result ≤ length c.args.tms.now =
-        let a = c.args in omega (arith, c.zeros_end-end.ensures, run_within is_zero (drop a.at a.tms.now), length-drop a.at a.tms.now) in
+    let a = c.args in omega (arith, c.zeros_end-end.ensures, run_within is_zero (drop a.at a.tms.now), length-drop a.at a.tms.now) in
     omega (arith, run_inside)
 
 pub returns-then-end-tms : goal.returns-then-end-tms
-returns-then-end-tms c = zeros_end _ _ _ _ _ (c.waits.ensures (not-false _ c.if-not-waits.false-raw)) c.zeros_end-end.ensures (omega arith) (omega arith) (omega arith)
+returns-then-end-tms c = zeros_end _ _ _ _ _ (c.waits.ensures c.if-not-waits.false) c.zeros_end-end.ensures (omega arith) (omega arith) (omega arith)
 
 pub returns-else-end-tms : goal.returns-else-end-tms
 returns-else-end-tms c =
     let run_inside : c.zeros_end-end.result ≤ length c.args.tms.now =
-        let a = c.args in omega (arith, c.zeros_end-end.ensures, run_within is_zero (drop a.at a.tms.now), length-drop a.at a.tms.now) in
-    zeros_end _ _ _ _ _ (c.waits.ensures (not-false _ c.if-not-waits.false-raw)) c.zeros_end-end.ensures (omega arith) (omega arith) (omega (arith, run_inside))
+    let a = c.args in omega (arith, c.zeros_end-end.ensures, run_within is_zero (drop a.at a.tms.now), length-drop a.at a.tms.now) in
+    zeros_end _ _ _ _ _ (c.waits.ensures c.if-not-waits.false) c.zeros_end-end.ensures (omega arith) (omega arith) (omega (arith, run_inside))

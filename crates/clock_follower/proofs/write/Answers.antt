@@ -14,39 +14,37 @@ pub stretch_end-end-requires : goal.stretch_end-end-requires
 stretch_end-end-requires c = c.loop-i-test.true
 
 pub overflow_sub-end : goal.overflow_sub-end
-overflow_sub-end c = omega (arith, c.stretch_end-end.ensures.some-clock)
+overflow_sub-end c = omega (arith, c.stretch_end-end.ensures.some_clock)
 
 pub bounds-tms-end : goal.bounds-tms-end
-bounds-tms-end c = omega (arith, c.stretch_end-end.ensures.some-clock, c.stretch_end-end.ensures.within)
+bounds-tms-end c = omega (arith, c.stretch_end-end.ensures.some_clock, c.stretch_end-end.ensures.within)
 
 pub next_state-next-requires : goal.next_state-next-requires
 next_state-next-requires c = c.loop-i.invariant.small
 
 pub slice_bounds-put_stretch-count : goal.slice_bounds-put_stretch-count
-slice_bounds-put_stretch-count c = omega (arith, c.stretch_end-end.ensures.some-clock)
+slice_bounds-put_stretch-count c = omega (arith, c.stretch_end-end.ensures.some_clock)
 
 pub slice_bounds-put_stretch-start : goal.slice_bounds-put_stretch-start
-slice_bounds-put_stretch-start c = omega (arith, c.stretch_end-end.ensures.some-clock)
+slice_bounds-put_stretch-start c = omega (arith, c.stretch_end-end.ensures.some_clock)
 
 pub slice_bounds-put_stretch-end : goal.slice_bounds-put_stretch-end
 slice_bounds-put_stretch-end c = omega (arith, c.stretch_end-end.ensures.within, c.requires.state_bound.1)
 
 pub put_stretch-at-requires : goal.put_stretch-at-requires
-put_stretch-at-requires c = let t = c in
-    let l = t in
-    let p = l.requires in
-    stretch_fits _ _ _ _ _ _ _ _ _ l.loop-i.invariant p.0.1 p.0.2 _ _ t.stretch_end-end.ensures t.next_state-next.ensures p.1
+put_stretch-at-requires c = let p = c.requires in
+    stretch_fits _ _ _ _ _ _ _ _ _ c.loop-i.invariant p.state_bound.1 p.state_bound.2 _ _ c.stretch_end-end.ensures c.next_state-next.ensures p.tdi_in_bounds
 
 pub loop-i-smaller : goal.loop-i-smaller
-loop-i-smaller c = let e = c.stretch_end-end.ensures in omega (arith, e.some-clock, e.within)
+loop-i-smaller c = let e = c.stretch_end-end.ensures in omega (arith, e.some_clock, e.within)
 
 pub loop-i-preserved : goal.loop-i-preserved
-loop-i-preserved c = let t = c in
-    let l = t in
-    let p = l.requires in
-    let e = t.stretch_end-end.ensures in
-    let n = t.next_state-next.ensures in
-    written_on _ _ _ _ _ _ _ _ _ l.loop-i.invariant p.0.1 p.0.2 _ _ e n (stretch_fits _ _ _ _ _ _ _ _ _ l.loop-i.invariant p.0.1 p.0.2 _ _ e n p.1) _ _ c.put_stretch-at.ensures
+loop-i-preserved c = let p = c.requires in
+    let e = c.stretch_end-end.ensures in
+    let n = c.next_state-next.ensures in
+    let w = c.put_stretch-at.ensures in
+    let room = stretch_fits _ _ _ _ _ _ _ _ _ c.loop-i.invariant p.state_bound.1 p.state_bound.2 _ _ e n p.tdi_in_bounds in
+    written_on _ _ _ _ _ _ _ _ _ c.loop-i.invariant p.state_bound.1 p.state_bound.2 _ _ e n room _ _ (w.value, w.plan_after)
 
 pub shape_of-plan : goal.shape_of-plan
 shape_of-plan c = c.loop-i.invariant.size
