@@ -30,5 +30,3 @@ pub returns : goal.returns
 returns c = let k = c in
     next_good _ _ _ refl _ k.equal.ensures (not-false _ k.if-not-equal.false-raw) _ k.bits_end-end.ensures c.if-plan-end-ne10.false
 
--- by hand: add-t6 : tie.Need-overflow-add-t6
--- by hand: add-t6 c = let l = (run_part _ _ _ (search rules) c.before.before.before.bits-end.ensures).0 in omega arith

@@ -14,4 +14,7 @@ put_number-requires c = let s = c in
 pub returns : goal.returns
 returns c = let p = c.put-next.ensures in
     let q = c.put_number.ensures in
-    (puts_more record { behind = p.0; holds = p.1 } record { behind = q.0.0; holds = q.1 } (omega (arith, p.0, c.requires)), omega (arith, p.0, q.0.1))
+    record {
+      puts = puts_more record { behind = p.value; holds = p.buf_after } record { behind = q.value.0; holds = q.out_after } (omega (arith, p.value, c.requires));
+      upper_bound = omega (arith, p.value, q.value.1);
+    }

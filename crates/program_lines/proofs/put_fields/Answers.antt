@@ -19,8 +19,8 @@ put_field-next-requires c = let v = c.loop-i.invariant in omega (arith, v.1, v.2
 pub loop-i-preserved : goal.loop-i-preserved
 loop-i-preserved c = let v = c.loop-i.invariant in
     let f = c.put_field-next in
-    (omega arith, omega (arith, f.auto.0, v.1), omega (arith, v.2, f.ensures.1), field_next _ _ _ _ _ _ _ _ c.loop-i-test.true v.3 (omega (arith, v.2, c.requires)) f.ensures.0)
+    (omega arith, omega (arith, f.auto.out, v.1), omega (arith, v.2, f.ensures.upper_bound), field_next _ _ _ _ _ _ _ _ c.loop-i-test.true v.3 (omega (arith, v.2, c.requires)) f.ensures.puts)
 
 pub returns : goal.returns
 returns c = let v = c.loop-i.invariant in
-    (fields_done _ _ _ _ _ _ c.loop-i-test.false v.3, omega (arith, v.0, v.2))
+    record { puts = fields_done _ _ _ _ _ _ c.loop-i-test.false v.3; upper_bound = omega (arith, v.0, v.2) }

@@ -10,4 +10,8 @@ returns c = let a = c.put-next in
     let b = c.put_fields-end in
     let d = c.put in
     let h = c.requires in
-    (puts_line _ _ record { behind = a.ensures.0; holds = a.ensures.1 } b.ensures.0 record { behind = d.ensures.0; holds = d.ensures.1 } (omega (arith, a.ensures.0, h)) (omega (arith, a.ensures.0, b.ensures.1, a.auto.0, h)), omega (arith, a.ensures.0, b.ensures.1, d.ensures.0))
+    record {
+      puts = puts_line _ _ record { behind = a.ensures.value; holds = a.ensures.buf_after } b.ensures.puts record { behind = d.ensures.value; holds = d.ensures.buf_after }
+          (omega (arith, a.ensures.value, h)) (omega (arith, a.ensures.value, b.ensures.upper_bound, a.auto.buf, h));
+      upper_bound = omega (arith, a.ensures.value, b.ensures.upper_bound, d.ensures.value);
+    }

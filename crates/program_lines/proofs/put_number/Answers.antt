@@ -22,4 +22,7 @@ returns c = let p = c.put.ensures in
     let f = c.fill_digits-from in
     let whole = part_is _ f.result _ f.ensures.1 f.ensures.2 in
     let k = few_digits _ f.result _ f.ensures.1 f.ensures.2 in
-    ((omega (arith, p.0, ap length whole), omega (arith, p.0, ap length whole, k)), p.1 ∙ ap (λ (l : List ℕ). write_at s.at l s.out.now) whole)
+    record {
+      value = (omega (arith, p.value, ap length whole), omega (arith, p.value, ap length whole, k));
+      out_after = p.buf_after ∙ ap (λ (l : List ℕ). write_at s.at l s.out.now) whole;
+    }
