@@ -23,6 +23,7 @@ writes_shown shown old r new p = rw (p.count, p.holds) (front_written shown old)
 
 -- two functions that agree on a list agree on each of its elements
 on_each : (f g : ProgramRow → Bytes) (ks : List ProgramRow) → map f ks ≡ map g ks → (k : ProgramRow) → Memᴰ k ks → f k ≡ g k
+on_each f g [] e k m = elim m [ ]
 on_each f g (x ∷ ks) e k (Memᴰ.head y) = rw y (ap (λ (l : List Bytes). get_or l 0 []) e)
 on_each f g (x ∷ ks) e k (Memᴰ.tail m) = on_each f g ks (ap (drop 1) e) k m
 
