@@ -1,7 +1,6 @@
 -- `network_draft::store::input_if` meets its contract.
 -- Assumes nothing.
 use borrow.Author.Tests.{lt-ltb, le-ltb}
-use borrow.Author.Rules.{rules}
 use Rattle.network_draft.proofs.store.input_if.Goals as goal
 
 pub returns-then-i-count : goal.returns-then-i-count

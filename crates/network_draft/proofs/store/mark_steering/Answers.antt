@@ -2,7 +2,6 @@
 -- Assumes nothing.
 use native.Mathlib.Omega.{arith}
 use Rattle.network_draft.proofs.Nodes.{marked_none, marked_one, marked_two}
-use borrow.Author.Rules.{rules}
 use Rattle.network_draft.proofs.store.mark_steering.Goals as goal
 
 pub overflow_add-bit : goal.overflow_add-bit
@@ -12,13 +11,7 @@ pub returns-in-Segment : goal.returns-in-Segment
 returns-in-Segment c = rw c.in-Segment.is (marked_none _ _ _ _)
 
 pub returns-then-count-gt2 : goal.returns-then-count-gt2
-returns-then-count-gt2 c = let at-if1 = c in
-    let at-mark-bit = at-if1 in
-    let at_x = at-mark-bit in
-    let at-start = at_x in
-    let p = rw at_x.in-Multiplexer.is at at-start.requires.0 in rw at_x.in-Multiplexer.is (marked_two _ _ _ _ _ _ _ _ _ _ (omega (arith, at-if1.if-count-gt2.true)) p.3 at-mark-bit.mark_bit.ensures c.mark_bit-then-count-gt2.ensures)
+returns-then-count-gt2 c = let p = rw c.in-Multiplexer.is at c.requires.0 in rw c.in-Multiplexer.is (marked_two _ _ _ _ _ _ _ _ _ _ (omega (arith, c.if-count-gt2.true)) p.3 c.mark_bit.ensures c.mark_bit-then-count-gt2.ensures)
 
 pub returns-else-count-gt2 : goal.returns-else-count-gt2
-returns-else-count-gt2 c = let at_x = c in
-    let at-start = at_x in
-    let p = rw at_x.in-Multiplexer.is at at-start.requires.0 in rw at_x.in-Multiplexer.is (marked_one _ _ _ _ _ _ _ _ _ p.2 p.3 (omega (arith, c.if-count-gt2.false)) c.mark_bit.ensures)
+returns-else-count-gt2 c = let p = rw c.in-Multiplexer.is at c.requires.0 in rw c.in-Multiplexer.is (marked_one _ _ _ _ _ _ _ _ _ p.2 p.3 (omega (arith, c.if-count-gt2.false)) c.mark_bit.ensures)

@@ -1,8 +1,7 @@
 -- `network_draft::store::store_numbers` meets its contract.
 -- Assumes nothing.
 use borrow.Author.Rules.{rules}
-use Prim.Native.Nat.{◌≤◌, ◌-◌}
-use Rattle.network_draft.proofs.Nodes.{Storing, storing_none, storing_more, storing_all}
+use Rattle.network_draft.proofs.Nodes.{storing_none, storing_more, storing_all}
 use Rattle.network_draft.proofs.store.store_numbers.Goals as goal
 
 pub loop-i-init : goal.loop-i-init
