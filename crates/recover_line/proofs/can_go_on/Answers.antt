@@ -11,7 +11,7 @@ use Rattle.recover_line.proofs.GoingOn.{cannot, first_tests, some_bytes, no_byte
 use Rattle.recover_line.proofs.can_go_on.Goals as goal
 
 pub returns-then-p-eq-MAX_LINES : goal.returns-then-p-eq-MAX_LINES
-returns-then-p-eq-MAX_LINES c = cannot (progress_for c.args.p) (λ t. omega (arith, t.more-lines, c.if-p-eq-MAX_LINES.true))
+returns-then-p-eq-MAX_LINES c = cannot (progress_for c.args.p) (λ t. omega (arith, t.more_lines, c.if-p-eq-MAX_LINES.true))
 
 pub returns-then-p-lt-IDLE : goal.returns-then-p-lt-IDLE
 returns-then-p-lt-IDLE c = cannot (progress_for c.args.p) (λ t. omega (arith, t.low, c.if-p-lt-IDLE.true))

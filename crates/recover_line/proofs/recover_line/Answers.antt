@@ -9,7 +9,9 @@ use Rattle.recover_line.proofs.OneLine.{call_refused, counted_before, counted_af
 use Rattle.recover_line.proofs.recover_line.Goals as goal
 
 pub returns-then-plan-q : goal.returns-then-plan-q
-returns-then-plan-q c = call_short (progress_for c.args.p) _ _ _ (sym (ap stepped c.in-To.is) ∙ c.check_line-checked.ensures) c.if-plan-q.true
+returns-then-plan-q c =
+    let a = call_short (progress_for c.args.p) c.args.line.now c.args.plan.now (progress_for c.in-To.q) (sym (ap stepped c.in-To.is) ∙ c.check_line-checked.ensures) c.if-plan-q.true in
+    record { result_value = a.0; plan_after = a.1 }
 
 pub bytes_written-at-requires : goal.bytes_written-at-requires
 bytes_written-at-requires c = counted_before (progress_for c.args.p) c.args.line.now c.args.plan.now _ (sym (ap stepped c.in-To.is) ∙ c.check_line-checked.ensures)
@@ -21,10 +23,18 @@ pub put_line-requires : goal.put_line-requires
 put_line-requires c = call_room (progress_for c.args.p) _ _ _ (sym (ap stepped c.in-To.is) ∙ c.check_line-checked.ensures) c.if-plan-q.false _ c.bytes_written-at.ensures
 
 pub returns-in-Refused : goal.returns-in-Refused
-returns-in-Refused c = call_refused (progress_for c.args.p) _ _ _ _ (sym (ap stepped c.in-Refused.is) ∙ c.check_line-checked.ensures)
+returns-in-Refused c =
+    let a = call_refused (progress_for c.args.p) c.args.line.now c.args.plan.now _ _ (sym (ap stepped c.in-Refused.is) ∙ c.check_line-checked.ensures) in
+    record { result_value = a.0; plan_after = a.1 }
 
 pub returns-then-at-bytes_written : goal.returns-then-at-bytes_written
-returns-then-at-bytes_written c = call_written (progress_for c.args.p) _ _ _ (sym (ap stepped c.in-To.is) ∙ c.check_line-checked.ensures) c.if-plan-q.false _ c.bytes_written-at.ensures _ c.put_line.ensures.left
+returns-then-at-bytes_written c =
+    let e = sym (ap stepped c.in-To.is) ∙ c.check_line-checked.ensures in
+    let a = call_written (progress_for c.args.p) c.args.line.now c.args.plan.now (progress_for c.in-To.q) e c.if-plan-q.false _ c.bytes_written-at.ensures _ c.put_line.ensures.left in
+    record { result_value = a.0; plan_after = a.1 }
 
 pub returns-else-at-bytes_written : goal.returns-else-at-bytes_written
-returns-else-at-bytes_written c = call_unwritten (progress_for c.args.p) c.args.line.now c.args.plan.now (progress_for c.in-To.q) (sym (ap stepped c.in-To.is) ∙ c.check_line-checked.ensures) c.if-plan-q.false _ c.bytes_written-at.ensures (omega (arith, c.bytes_written.ensures, c.if-at-bytes_written.false))
+returns-else-at-bytes_written c =
+    let e = sym (ap stepped c.in-To.is) ∙ c.check_line-checked.ensures in
+    let a = call_unwritten (progress_for c.args.p) c.args.line.now c.args.plan.now (progress_for c.in-To.q) e c.if-plan-q.false _ c.bytes_written-at.ensures (omega (arith, c.bytes_written.ensures, c.if-at-bytes_written.false)) in
+    record { result_value = a.0; plan_after = a.1 }
