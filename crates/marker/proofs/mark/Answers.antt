@@ -1,6 +1,5 @@
 -- `marker::mark` meets its contract.
 -- Assumes nothing.
-use borrow.Author.Rules.{rules}
 use Rattle.marker.proofs.mark.Goals as goal
 
 pub returns : goal.returns
