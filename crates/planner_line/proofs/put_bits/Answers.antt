@@ -23,4 +23,4 @@ loop-b-preserved c = let l = c.loop-b in
 
 pub returns : goal.returns
 returns c = let l = c.loop-b in
-    (putting_all _ _ _ _ _ _ _ _ _ _ l.invariant.0 c.loop-b-test.false l.invariant.2, l.invariant.3)
+    record { segment_put = putting_all _ _ _ _ _ _ _ _ _ _ l.invariant.0 c.loop-b-test.false l.invariant.2; kept_from = l.invariant.3 }

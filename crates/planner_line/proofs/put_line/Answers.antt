@@ -8,21 +8,23 @@ use Rattle.planner_line.proofs.PutOperation.{operation_room, zeros_there, line_p
 use Rattle.planner_line.proofs.put_line.Goals as goal
 
 pub put_operation-end-requires : goal.put_operation-end-requires
-put_operation-end-requires c = let zeros = c in
-    let first = zeros in
-    let s = first in
-    let len = s.args.len in
-    let fits : first.put-start.result + len ≤ length first.put-start.new.0 = omega (arith, s.requires.has_room.room, first.put-start.ensures.value, s.requires.len_value, first.put-start.auto.0) in
-    let there = zeros_there first.put-start.result len first.put-start.new.0 _ fits zeros.put_repeated.ensures.buf_after in
-    (operation_room _ s.requires.has_room _ _ first.put-start.ensures.value (search rules), rw s.requires.len_value at there)
+put_operation-end-requires c = let len = c.args.len in
+    let r = c.requires in
+    let first = c.put-start in
+    let fits : first.result + len ≤ length first.new.buf = omega (arith, r.has_room.room, first.ensures.value, r.len_value, first.auto.buf) in
+    let there = zeros_there first.result len first.new.buf _ fits c.put_repeated.ensures.buf_after in
+    record {
+      has_room = operation_room _ r.has_room _ _ first.ensures.value (search rules);
+      zeros_from = rw r.len_value at there;
+    }
 
 pub returns : goal.returns
-returns c = let last = c.put in
-    let bits = c in
-    let zeros = bits in
-    let first = zeros in
-    let s = first in (
-      omega (arith, first.put-start.ensures.value, bits.put_operation-end.ensures.value, last.ensures.0),
-      line_put _ _ _ _ _ _ _ _ _ s.requires.has_room _ _ _ _ _ _ _ (search rules) first.put-start.ensures.value first.put-start.ensures.buf_after s.requires.len_value zeros.put_repeated.ensures.buf_after
-          bits.put_operation-end.ensures.value bits.put_operation-end.ensures.operation_put last.ensures.1,
-    )
+returns c = let r = c.requires in
+    let first = c.put-start.ensures in
+    let zeros = c.put_repeated.ensures in
+    let bits = c.put_operation-end.ensures in
+    record {
+      value = omega (arith, first.value, bits.value, c.put.ensures.value);
+      line_put = line_put _ _ _ _ _ _ _ _ _ r.has_room _ _ _ _ _ _ _ (search rules) first.value first.buf_after r.len_value zeros.buf_after
+          bits.value bits.operation_put c.put.ensures.buf_after;
+    }

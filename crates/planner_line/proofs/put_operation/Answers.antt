@@ -17,69 +17,50 @@ pub bounds-way-i : goal.bounds-way-i
 bounds-way-i c = omega (arith, c.requires.has_room.holds.count)
 
 pub segment_len-len-requires : goal.segment_len-len-requires
-segment_len-len-requires c =
-    let this : let s = c in SegmentOn s.args.nodes.now s.args.way.now s.args.n c.loop-i.i c.wide-s.result =
-        segment_on _ _ _ c.requires.has_room.holds _ _ c.loop-i-test.true c.wide-s.ensures in
-    omega (arith, this.below)
+segment_len-len-requires c = omega (arith, (segment_on _ _ _ c.requires.has_room.holds _ _ c.loop-i-test.true c.wide-s.ensures).below)
 
 pub offset_bounds-steering-s : goal.offset_bounds-steering-s
-offset_bounds-steering-s c =
-    let this : let s = c in SegmentOn s.args.nodes.now s.args.way.now s.args.n c.loop-i.i c.wide-s.result =
-        segment_on _ _ _ c.requires.has_room.holds _ _ c.loop-i-test.true c.wide-s.ensures in
-    omega (arith, this.below)
+offset_bounds-steering-s c = omega (arith, (segment_on _ _ _ c.requires.has_room.holds _ _ c.loop-i-test.true c.wide-s.ensures).below)
 
 pub bounds-steering-s : goal.bounds-steering-s
-bounds-steering-s c =
-    let this : let s = c in SegmentOn s.args.nodes.now s.args.way.now s.args.n c.loop-i.i c.wide-s.result =
-        segment_on _ _ _ c.requires.has_room.holds _ _ c.loop-i-test.true c.wide-s.ensures in
-    omega (arith, this.below)
+bounds-steering-s c = omega (arith, (segment_on _ _ _ c.requires.has_room.holds _ _ c.loop-i-test.true c.wide-s.ensures).below)
 
 pub offset_bounds-wants-s : goal.offset_bounds-wants-s
-offset_bounds-wants-s c =
-    let this : let s = c in SegmentOn s.args.nodes.now s.args.way.now s.args.n c.loop-i.i c.wide-s.result =
-        segment_on _ _ _ c.requires.has_room.holds _ _ c.loop-i-test.true c.wide-s.ensures in
-    omega (arith, this.below)
+offset_bounds-wants-s c = omega (arith, (segment_on _ _ _ c.requires.has_room.holds _ _ c.loop-i-test.true c.wide-s.ensures).below)
 
 pub bounds-wants-s : goal.bounds-wants-s
-bounds-wants-s c =
-    let this : let s = c in SegmentOn s.args.nodes.now s.args.way.now s.args.n c.loop-i.i c.wide-s.result =
-        segment_on _ _ _ c.requires.has_room.holds _ _ c.loop-i-test.true c.wide-s.ensures in
-    omega (arith, this.below)
+bounds-wants-s c = omega (arith, (segment_on _ _ _ c.requires.has_room.holds _ _ c.loop-i-test.true c.wide-s.ensures).below)
 
 pub put_segment-left-requires : goal.put_segment-left-requires
-put_segment-left-requires c =
-    let this : let s = c in SegmentOn s.args.nodes.now s.args.way.now s.args.n c.loop-i.i c.wide-s.result =
-        segment_on _ _ _ c.requires.has_room.holds _ _ c.loop-i-test.true c.wide-s.ensures in
-    let w = c in
-    let l = w in
-    let len = c.segment_len-len in
-    let r = l.requires.has_room in
-    ((omega (arith, (this w).most, len.ensures), segment_fits l.loop-i.invariant.1 r _ _ (this w) len.ensures), segment_zeros l.loop-i.invariant.1 r _ _ (this w) len.ensures)
+put_segment-left-requires c = let r = c.requires.has_room in
+    let here = segment_on _ _ _ r.holds _ _ c.loop-i-test.true c.wide-s.ensures in
+    let p = c.loop-i.invariant.1 in
+    let len = c.segment_len-len.ensures in
+    record {
+      len_le_word_width = (omega (arith, here.most, len), segment_fits p r _ _ here len);
+      zeros_from = segment_zeros p r _ _ here len;
+    }
 
 pub overflow_add-place : goal.overflow_add-place
-overflow_add-place c =
-    let this : let s = c in SegmentOn s.args.nodes.now s.args.way.now s.args.n c.loop-i.i c.wide-s.result =
-        segment_on _ _ _ c.requires.has_room.holds _ _ c.loop-i-test.true c.wide-s.ensures in
-    let w = c in
-    let l = w in
-    omega (arith, segment_fits l.loop-i.invariant.1 l.requires.has_room _ _ (this w) c.segment_len-len.ensures)
+overflow_add-place c = let r = c.requires.has_room in
+    let here = segment_on _ _ _ r.holds _ _ c.loop-i-test.true c.wide-s.ensures in
+    omega (arith, segment_fits c.loop-i.invariant.1 r _ _ here c.segment_len-len.ensures)
 
 pub loop-i-preserved : goal.loop-i-preserved
-loop-i-preserved c =
-    let this : let s = c in SegmentOn s.args.nodes.now s.args.way.now s.args.n c.loop-i.i c.wide-s.result =
-        segment_on _ _ _ c.requires.has_room.holds _ _ c.loop-i-test.true c.wide-s.ensures in
-    let len = c in
-    let w = len in
-    let l = w in (
-      search rules,
-      operation_more l.loop-i.invariant.1 l.requires.has_room _ _ (this w) len.segment_len-len.ensures w.loop-i-test.true w.wide-s.ensures
-          _ _ (search rules) c.put_segment-left.ensures.segment_put c.put_segment-left.ensures.kept_from,
-    )
+loop-i-preserved c = let r = c.requires.has_room in
+    let t = c.loop-i-test.true in
+    let e = c.wide-s.ensures in
+    let here = segment_on _ _ _ r.holds _ _ t e in
+    let put = c.put_segment-left in
+    (search rules, operation_more c.loop-i.invariant.1 r _ _ here c.segment_len-len.ensures t e _ _ (search rules) put.ensures.segment_put put.ensures.kept_from)
 
 pub shape_of-plan : goal.shape_of-plan
 shape_of-plan c = c.loop-i.invariant.1.size
 
 pub returns : goal.returns
-returns c = let l = c in
-    let r = l.requires.has_room in
-    (operation_place l.loop-i.invariant.1 r l.loop-i.invariant.0 c.loop-i-test.false, operation_all l.loop-i.invariant.1 r l.loop-i.invariant.0 c.loop-i-test.false)
+returns c = let r = c.requires.has_room in
+    let l = c.loop-i.invariant in
+    record {
+      value = operation_place l.1 r l.0 c.loop-i-test.false;
+      operation_put = operation_all l.1 r l.0 c.loop-i-test.false;
+    }

@@ -6,5 +6,5 @@ use Rattle.planner_line.proofs.PutBits.{zeros_stay}
 use Rattle.planner_line.proofs.put_segment.Goals as goal
 
 pub returns-then-want-eq0 : goal.returns-then-want-eq0
-returns-then-want-eq0 c = let p = c in
-    (zeros_stay _ _ _ _ _ _ _ p.requires.len_le_word_width.1 p.requires.zeros_from c.if-steer-eq0.true c.if-want-eq0.true, λ k l. refl)
+returns-then-want-eq0 c = let p = c.requires in
+    record { segment_put = zeros_stay _ _ _ _ _ _ _ p.len_le_word_width.1 p.zeros_from c.if-steer-eq0.true c.if-want-eq0.true; kept_from = λ k l. refl }
