@@ -48,11 +48,11 @@ pub fn find_plan<'a>(
 ) -> Found
     requires plannable { Plannable nodes.now steering.now problem }
     requires rows_right { RowsRight nodes.now steering.now problem rows.old }
-    requires search_size_in_bounds { (search_size ≤ length table.old) × (start < max_settings) × (full < 16) × (16 ≤ length out.old) }
-    requires each { Each nodes.now steering.now problem (λ net. SearchStarts net start full) }
-    ensures rows_right_2 { RowsRight nodes.now steering.now problem rows.new }
-    ensures each_2 { Each nodes.now steering.now problem (λ net. PlanFound net start out.old result out.new) }
-    ensures table_after { table.new ≡ write_over (replicate search_entries 0) table.old }
+    requires room { (search_size ≤ length table.old) × (start < max_settings) × (full < 16) × (16 ≤ length out.old) }
+    requires starts { Each nodes.now steering.now problem (λ net. SearchStarts net start full) }
+    ensures rows_right { RowsRight nodes.now steering.now problem rows.new }
+    ensures found { Each nodes.now steering.now problem (λ net. PlanFound net start out.old result out.new) }
+    ensures cleared { table.new ≡ write_over (replicate search_entries 0) table.old }
 {
     clear(table);
     let d = find_layer(nodes, steering, problem, rows, start, full, table);

@@ -16,8 +16,8 @@ use planner_table::sets::has;
 
 // The first of n choices that leads to a state of slot i with the targets got; n where none does.
 fn first_choice(table: &[u16], i: usize, lands: &Lands, n: usize, got: usize) -> usize
-    requires search_size_in_bounds { (search_size ≤ length table.now) × (n ≤ 64) × (i < 16) × (got < 16) }
-    requires by_index { (c : ℕ) → c < n → get_or lands.now c 0 < max_settings }
+    requires room { (search_size ≤ length table.now) × (n ≤ 64) × (i < 16) × (got < 16) }
+    requires lands_small { (c : ℕ) → c < n → get_or lands.now c 0 < max_settings }
     ensures { FirstAt (λ (c : ℕ). word_bit (get_or table.now (i * max_settings + get_or lands.now c 0) 0) got ≡ true) n result }
 {
     let mut c: usize = 0;
@@ -43,10 +43,10 @@ pub fn trace<'a>(
 )
     requires plannable { Plannable nodes.now steering.now problem }
     requires rows_right { RowsRight nodes.now steering.now problem rows.old }
-    requires search_size_in_bounds { (search_size ≤ length table.now) × (start < max_settings) × (1 ≤ d) × (d ≤ 16) × (16 ≤ length out.old) }
-    requires each { Each nodes.now steering.now problem (λ net. Kept net (start * 16) d table.now) }
-    ensures rows_right_2 { RowsRight nodes.now steering.now problem rows.new }
-    ensures each_2 { Each nodes.now steering.now problem (λ net. PlanTraced net (start * 16) d out.old out.new) }
+    requires room { (search_size ≤ length table.now) × (start < max_settings) × (1 ≤ d) × (d ≤ 16) × (16 ≤ length out.old) }
+    requires kept { Each nodes.now steering.now problem (λ net. Kept net (start * 16) d table.now) }
+    ensures rows_right { RowsRight nodes.now steering.now problem rows.new }
+    ensures traced { Each nodes.now steering.now problem (λ net. PlanTraced net (start * 16) d out.old out.new) }
 {
     let mut x = start;
     let mut m: usize = 0;

@@ -14,19 +14,19 @@ use Rattle.planner_search.proofs.trace.first_choice.Goals as goal
 pub overflow_add-i : goal.overflow_add-i
 overflow_add-i c =
     let small : c.wide.result < 729 =
-        rw c.wide.ensures (c.requires.by_index c.loop-c.c c.loop-c-test.true) in
+    rw c.wide.ensures (c.requires.lands_small c.loop-c.c c.loop-c-test.true) in
     omega (arith, small)
 
 pub offset_bounds-table-i : goal.offset_bounds-table-i
 offset_bounds-table-i c =
     let small : c.wide.result < 729 =
-        rw c.wide.ensures (c.requires.by_index c.loop-c.c c.loop-c-test.true) in
+    rw c.wide.ensures (c.requires.lands_small c.loop-c.c c.loop-c-test.true) in
     omega (arith, small)
 
 pub bounds-table-i : goal.bounds-table-i
 bounds-table-i c =
     let small : c.wide.result < 729 =
-        rw c.wide.ensures (c.requires.by_index c.loop-c.c c.loop-c-test.true) in
+    rw c.wide.ensures (c.requires.lands_small c.loop-c.c c.loop-c-test.true) in
     omega (arith, small)
 
 pub returns-then-has : goal.returns-then-has
