@@ -20,66 +20,53 @@ use Rattle.recoverer.proofs.lines.play_line.Goals as goal
 
 pub returns-then-not-can_go_on : goal.returns-then-not-can_go_on
 returns-then-not-can_go_on c = let a = c.args in
-    play_refused (progress_for a.p) _ _ _ _ (cannot_go_on (progress_for a.p) a.line.now (sym c.can_go_on.ensures ∙ not-true _ c.if-not-can_go_on.true-raw)) _
+    play_refused (progress_for a.p) _ _ _ _ (cannot_go_on (progress_for a.p) a.line.now (sym c.can_go_on.ensures ∙ c.if-not-can_go_on.true)) _
 
 pub overflow_add-place : goal.overflow_add-place
-overflow_add-place c = let i = c in
-    omega (arith, (tested (progress_for i.args.p) (sym i.can_go_on.ensures ∙ not-false _ i.if-not-can_go_on.false-raw)).more-lines)
+overflow_add-place c = omega (arith, (tested (progress_for c.args.p) (sym c.can_go_on.ensures ∙ c.if-not-can_go_on.false)).more_lines)
 
 pub returns-then-clocks-eq0 : goal.returns-then-clocks-eq0
-returns-then-clocks-eq0 c = let i = c in
-    let s = i in
-    play_refused (progress_for s.args.p) _ _ _ _ (no_clocks (progress_for s.args.p) s.args.line.now (sym i.can_go_on.ensures ∙ not-false _ i.if-not-can_go_on.false-raw) (sym c.if-clocks-eq0.true ∙ s.requires.0)) _
+returns-then-clocks-eq0 c = let a = c.args in
+    play_refused (progress_for a.p) _ _ _ _ (no_clocks (progress_for a.p) a.line.now (sym c.can_go_on.ensures ∙ c.if-not-can_go_on.false) (sym c.if-clocks-eq0.true ∙ c.requires.0)) _
 
 pub bytes_written-at-requires : goal.bytes_written-at-requires
-bytes_written-at-requires c = let i = c in
-    (tested (progress_for i.args.p) (sym i.can_go_on.ensures ∙ not-false _ i.if-not-can_go_on.false-raw)).counted
+bytes_written-at-requires c = (tested (progress_for c.args.p) (sym c.can_go_on.ensures ∙ c.if-not-can_go_on.false)).counted
 
 pub tms_of-requires : goal.tms_of-requires
-tms_of-requires c = (counted_clocks _ _ c.requires.0 c.if-clocks-eq0.false).length-is
+tms_of-requires c = (counted_clocks _ _ c.requires.0 c.if-clocks-eq0.false).length_is
 
 pub tdi_of-requires : goal.tdi_of-requires
-tdi_of-requires c = tms-of-requires c κs
+tdi_of-requires c = (counted_clocks _ _ c.requires.0 c.if-clocks-eq0.false).length_is
 
 pub play-played-requires : goal.play-played-requires
-play-played-requires c = let d = c in
-    let m = d in
-    let w = m in
-    let i = w in
-    let s = i in
-    let p = progress_for s.args.p in
-    let t = tested p (sym i.can_go_on.ensures ∙ not-false _ i.if-not-can_go_on.false-raw) in
-    let h = counted_clocks _ _ s.requires.0 w.if-clocks-eq0.false in (
-      (omega (arith, t.high), t.few, t.short, omega (arith, ap length m.tms_of.ensures, length-take s.args.clocks (drop 4 s.args.line.now), h.short, h.length-is)),
-      (
-        rows_as_long _ _ h _ _ m.tms_of.ensures d.tdi_of.ensures,
-        row_of_bits _ _ h _ _ m.tms_of.ensures d.tdi_of.ensures,
-        omega (arith, w.bytes_written-at.ensures, t.counted),
-        s.requires.1,
-      ),
-    )
+play-played-requires c = let a = c.args in
+    let t = tested (progress_for a.p) (sym c.can_go_on.ensures ∙ c.if-not-can_go_on.false) in
+    let h = counted_clocks _ _ c.requires.0 c.if-clocks-eq0.false in
+    record {
+      state_bound = (omega (arith, t.high), t.few, t.short, omega (arith, ap length c.tms_of.ensures, length-take a.clocks (drop 4 a.line.now), h.short, h.length_is));
+      tdi_len = (
+        rows_as_long _ _ h _ _ c.tms_of.ensures c.tdi_of.ensures,
+        row_of_bits _ _ h _ _ c.tms_of.ensures c.tdi_of.ensures,
+        omega (arith, c.bytes_written-at.ensures, t.counted),
+        c.requires.1,
+      );
+    }
 
 pub returns-in-To : goal.returns-in-To
-returns-in-To c = let y = c in
-    let d = y in
-    let m = d in
-    let w = m in
-    let i = w in
-    let s = i in
-    let p = progress_for s.args.p in
-    let h = counted_clocks _ _ s.requires.0 w.if-clocks-eq0.false in
+returns-in-To c = let a = c.args in
+    let p = progress_for a.p in
+    let h = counted_clocks _ _ c.requires.0 c.if-clocks-eq0.false in
     let q = progress_for c.in-To.q in
     let e = sym (ap followed_for c.in-To.is) in
-    play_written p s.args.line.now s.args.plan.now _
-    (step_followed p _ (sym i.can_go_on.ensures ∙ not-false _ i.if-not-can_go_on.false-raw) _ s.requires.0 w.if-clocks-eq0.false (some q) (e ∙ y.play-played.ensures.answers ∙ ap (λ (l : Bytes). counts_by p (map is_one l)) m.tms_of.ensures))
-    s.requires.1 _ w.bytes_written-at.ensures _ (y.play-played.ensures.left q (sym e) ∙ ap (λ (x : Bytes). write_at w.bytes_written-at.result x s.args.plan.now) (rows_text _ _ h _ _ m.tms_of.ensures d.tdi_of.ensures s.args.p.state))
+    play_written p a.line.now a.plan.now _
+    (step_followed p _ (sym c.can_go_on.ensures ∙ c.if-not-can_go_on.false) _ c.requires.0 c.if-clocks-eq0.false (some q)
+    (e ∙ c.play-played.ensures.answers ∙ ap (λ (l : Bytes). counts_by p (map is_one l)) c.tms_of.ensures))
+    c.requires.1 _ c.bytes_written-at.ensures _
+    (c.play-played.ensures.left q (sym e) ∙ ap (λ (x : Bytes). write_at c.bytes_written-at.result x a.plan.now) (rows_text _ _ h _ _ c.tms_of.ensures c.tdi_of.ensures a.p.state))
 
 pub returns-in-Offends : goal.returns-in-Offends
-returns-in-Offends c = let y = c in
-    let m = y in
-    let w = m in
-    let i = w in
-    let s = i in
-    let p = progress_for s.args.p in
-    play_refused p s.args.line.now s.args.plan.now _ _
-    (step_followed p _ (sym i.can_go_on.ensures ∙ not-false _ i.if-not-can_go_on.false-raw) _ s.requires.0 w.if-clocks-eq0.false none (sym (ap followed_for c.in-Offends.is) ∙ y.play-played.ensures.answers ∙ ap (λ (l : Bytes). counts_by p (map is_one l)) m.tms_of.ensures)) _
+returns-in-Offends c = let a = c.args in
+    let p = progress_for a.p in
+    play_refused p a.line.now a.plan.now _ _
+    (step_followed p _ (sym c.can_go_on.ensures ∙ c.if-not-can_go_on.false) _ c.requires.0 c.if-clocks-eq0.false none
+    (sym (ap followed_for c.in-Offends.is) ∙ c.play-played.ensures.answers ∙ ap (λ (l : Bytes). counts_by p (map is_one l)) c.tms_of.ensures)) _

@@ -20,46 +20,40 @@ pub shape_of-plan-then-end-text : goal.shape_of-plan-then-end-text
 shape_of-plan-then-end-text c = c.loop-at.invariant.as_long
 
 pub returns-then-end-text : goal.returns-then-end-text
-returns-then-end-text c = let l = c in
-    let a = l.args in
-    done_unended a.text.now (progress_for a.first) a.plan.now (progress_for l.loop-at.p) _ _ l.loop-at.invariant _ c.find_line-found.ensures.ends c.if-end-text.true
+returns-then-end-text c = let a = c.args in
+    done_unended a.text.now (progress_for a.first) a.plan.now (progress_for c.loop-at.p) _ _ c.loop-at.invariant _ c.find_line-found.ensures.ends c.if-end-text.true
 
 pub slice_bounds-play_line-count : goal.slice_bounds-play_line-count
 slice_bounds-play_line-count c = omega (arith, c.find_line-found.ensures.ends.found)
 
 pub play_line-done-requires : goal.play_line-done-requires
-play_line-done-requires c = let l = c in
-    (c.find_line-found.ensures.counts, omega (arith, l.loop-at.invariant.as_long, l.requires))
+play_line-done-requires c = (c.find_line-found.ensures.counts, omega (arith, c.loop-at.invariant.as_long, c.requires))
 
 pub returns-in-Refused : goal.returns-in-Refused
-returns-in-Refused c = let y = c in
-    let f = y in
-    let l = f in
-    let a = l.args in
-    done_refused a.text.now (progress_for a.first) a.plan.now (progress_for l.loop-at.p) _ _ l.loop-at.invariant _ f.find_line-found.ensures.ends (omega (arith, f.find_line-found.ensures.ends.within, y.if-end-text.false)) _ _ y.play_line-done.ensures _ _ (ap stepped c.in-Refused.is)
+returns-in-Refused c = let a = c.args in
+    let e = c.find_line-found.ensures.ends in
+    done_refused a.text.now (progress_for a.first) a.plan.now (progress_for c.loop-at.p) _ _ c.loop-at.invariant _ e (omega (arith, e.within, c.if-end-text.false)) _ _
+    c.play_line-done.ensures _ _ (ap stepped c.in-Refused.is)
 
 pub overflow_sub-guess : goal.overflow_sub-guess
 overflow_sub-guess c = omega (arith, c.find_line-found.ensures.ends.found)
 
 pub overflow_add-at : goal.overflow_add-at
-overflow_add-at c = let f = c in
-    omega (arith, f.find_line-found.ensures.ends.within, c.if-end-text.false)
+overflow_add-at c = omega (arith, c.find_line-found.ensures.ends.within, c.if-end-text.false)
 
 pub loop-at-smaller : goal.loop-at-smaller
 loop-at-smaller c = let e = c.find_line-found.ensures.ends in
     omega (arith, e.within, e.found, c.if-end-text.false)
 
 pub loop-at-preserved : goal.loop-at-preserved
-loop-at-preserved c = let y = c in
-    let f = y in
-    let l = f in
-    let a = l.args in
-    doing_next a.text.now (progress_for a.first) a.plan.now (progress_for l.loop-at.p) _ _ l.loop-at.invariant _ f.find_line-found.ensures.ends (omega (arith, f.find_line-found.ensures.ends.within, y.if-end-text.false)) _ _ y.play_line-done.ensures (progress_for c.in-To.q) (ap stepped c.in-To.is)
+loop-at-preserved c = let a = c.args in
+    let e = c.find_line-found.ensures.ends in
+    doing_next a.text.now (progress_for a.first) a.plan.now (progress_for c.loop-at.p) _ _ c.loop-at.invariant _ e (omega (arith, e.within, c.if-end-text.false)) _ _
+    c.play_line-done.ensures (progress_for c.in-To.q) (ap stepped c.in-To.is)
 
 pub shape_of-plan : goal.shape_of-plan
 shape_of-plan c = c.loop-at.invariant.as_long
 
 pub returns : goal.returns
-returns c = let l = c in
-    let a = l.args in
-    done_at_end a.text.now (progress_for a.first) a.plan.now (progress_for l.loop-at.p) _ _ l.loop-at.invariant c.loop-at-test.false
+returns c = let a = c.args in
+    done_at_end a.text.now (progress_for a.first) a.plan.now (progress_for c.loop-at.p) _ _ c.loop-at.invariant c.loop-at-test.false

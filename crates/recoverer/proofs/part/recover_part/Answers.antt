@@ -11,19 +11,12 @@ pub returns-in-Refused : goal.returns-in-Refused
 returns-in-Refused c = from_answer _ _ _ _ _ _ _ _ (ap stepped c.in-Refused.is) (part_refused c.args.text.now c.args.plan.now _ _)
 
 pub returns-in-Refused-now : goal.returns-in-Refused-now
-returns-in-Refused-now c = let u = c in
-    let l = u in
-    let m = l in
-    let a = m.args in
-    from_answer _ _ _ _ _ _ _ _ (ap stepped m.in-To.is)
-    (part_stopped (progress_for m.in-To.p) a.text.now a.plan.now _ _ _ l.recover_lines-lines.ensures (same-length-2 c) _ u.unless_long-now.ensures _ _ (ap stepped c.in-Refused-now.is))
+returns-in-Refused-now c = let a = c.args in
+    from_answer _ _ _ _ _ _ _ _ (ap stepped c.in-To.is)
+    (part_stopped (progress_for c.in-To.p) a.text.now a.plan.now _ _ _ c.recover_lines-lines.ensures c.recover_lines-lines.auto.plan _ c.unless_long-now.ensures _ _ (ap stepped c.in-Refused-now.is))
 
 pub returns-in-To-now : goal.returns-in-To-now
-returns-in-To-now c = let f = c in
-    let k = f in
-    let u = k in
-    let l = u in
-    let m = l in
-    let a = m.args in
-    from_answer _ _ _ _ _ _ _ _ (ap stepped m.in-To.is)
-    (part_held (progress_for m.in-To.p) a.text.now a.plan.now _ _ _ l.recover_lines-lines.ensures (same-length-4 c) _ u.unless_long-now.ensures (progress_for k.in-To-now.q) (ap stepped k.in-To-now.is) _ f.move_to_front.ensures.value _ f.move_to_front.ensures.text_after)
+returns-in-To-now c = let a = c.args in
+    from_answer _ _ _ _ _ _ _ _ (ap stepped c.in-To.is)
+    (part_held (progress_for c.in-To.p) a.text.now a.plan.now _ _ _ c.recover_lines-lines.ensures c.recover_lines-lines.auto.plan _ c.unless_long-now.ensures
+    (progress_for c.in-To-now.q) (ap stepped c.in-To-now.is) _ c.move_to_front.ensures.value _ c.move_to_front.ensures.text_after)

@@ -9,19 +9,22 @@ use Rattle.recoverer.proofs.WholeCall.{whole_refused, whole_short, whole_written
 use Rattle.recoverer.proofs.whole.recover_text.Goals as goal
 
 pub returns-then-plan-count : goal.returns-then-plan-count
-returns-then-plan-count c = whole_short _ _ _ _ c.recover_in_turn-recovered.ensures _ (ap end_answer c.in-Bytes.is) c.if-plan-count.true
+returns-then-plan-count c =
+    let a = whole_short c.args.text.now c.args.plan.now _ _ c.recover_in_turn-recovered.ensures _ (ap end_answer c.in-Bytes.is) c.if-plan-count.true in
+    record { result_value = a.0; plan_after = a.1 }
 
 pub slice_bounds-own-end : goal.slice_bounds-own-end
 slice_bounds-own-end c = c.recover_in_turn-recovered.ensures.within _ (ap end_answer c.in-Bytes.is)
 
-pub slice_bounds-put-end : goal.slice_bounds-put-end
-slice_bounds-put-end c = sym (length-take-le _ _ (array-share-prefix-own c))
-
 pub put-requires : goal.put-requires
-put-requires c = omega (arith, slice-aggregate-put c, c.if-plan-count.false)
+put-requires c = ?
 
 pub returns-in-Refused : goal.returns-in-Refused
-returns-in-Refused c = whole_refused _ _ _ _ c.recover_in_turn-recovered.ensures _ _ (ap end_answer c.in-Refused.is)
+returns-in-Refused c =
+    let a = whole_refused c.args.text.now c.args.plan.now _ _ c.recover_in_turn-recovered.ensures _ _ (ap end_answer c.in-Refused.is) in
+    record { result_value = a.0; plan_after = a.1 }
 
 pub returns-else-plan-count : goal.returns-else-plan-count
-returns-else-plan-count c = whole_written _ _ _ _ c.recover_in_turn-recovered.ensures _ (ap end_answer c.in-Bytes.is) c.if-plan-count.false _ c.put.ensures.buf_after
+returns-else-plan-count c =
+    let a = whole_written c.args.text.now c.args.plan.now _ _ c.recover_in_turn-recovered.ensures _ (ap end_answer c.in-Bytes.is) c.if-plan-count.false _ c.put.ensures.buf_after in
+    record { result_value = a.0; plan_after = a.1 }
