@@ -1,9 +1,8 @@
 -- `recoverer::whole::recover_text` meets its contract. What the calls in turn leave in the own buffer decides.
 -- Assumes nothing.
-use mathlib.Core.Path.{ap, sym}
+use mathlib.Core.Path.{ap}
 use native.Mathlib.Omega.{arith}
 use lib.Seq.{length-take-le}
-use borrow.Author.Rules.{rules}
 use Rattle.recover_line.specs.Answers.{end_answer}
 use Rattle.recoverer.proofs.WholeCall.{whole_refused, whole_short, whole_written}
 use Rattle.recoverer.proofs.whole.recover_text.Goals as goal
@@ -17,7 +16,8 @@ pub slice_bounds-own-end : goal.slice_bounds-own-end
 slice_bounds-own-end c = c.recover_in_turn-recovered.ensures.within _ (ap end_answer c.in-Bytes.is)
 
 pub put-requires : goal.put-requires
-put-requires c = ?
+put-requires c = let fits = c.recover_in_turn-recovered.ensures.within _ (ap end_answer c.in-Bytes.is) in
+    omega (arith, length-take-le c.in-Bytes.count c.recover_in_turn-recovered.new.own fits, c.if-plan-count.false)
 
 pub returns-in-Refused : goal.returns-in-Refused
 returns-in-Refused c =
