@@ -3,7 +3,6 @@
 use mathlib.Core.Path.{ap, ◌∙◌}
 use Rattle.network_words.specs.Words.{word_bit}
 use Rattle.planner_table.proofs.SetLaws.{bit_tested}
-use borrow.Author.Rules.{rules}
 use Rattle.planner_table.proofs.sets.has.Goals as goal
 
 pub returns : goal.returns

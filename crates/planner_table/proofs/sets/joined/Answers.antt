@@ -1,9 +1,8 @@
 -- `planner_table::sets::joined` meets its contract. The loop's invariant: r has each of the first m sets of targets that is in sets, together
 -- with g, and nothing else.
 -- Assumes nothing.
-use Prim.Native.Nat.{◌-◌, ◌≤◌}
 use native.Mathlib.Omega.{arith}
-use Rattle.planner_table.proofs.SetLaws.{joined_alone, JoinedBelow, joined_none, joined_more, joined_all}
+use Rattle.planner_table.proofs.SetLaws.{joined_alone, joined_none, joined_more, joined_all}
 use Rattle.planner_table.proofs.sets.joined.Goals as goal
 
 pub returns-then-g-eq0 : goal.returns-then-g-eq0
@@ -17,8 +16,7 @@ joined_at-r-requires c = (c.requires, omega arith)
 
 pub loop-m-preserved : goal.loop-m-preserved
 loop-m-preserved c = let l = c.loop-m in
-    let s = c in
-    (omega arith, joined_more s.args.sets s.args.g l.m l.r c.joined_at-r.result s.requires (omega arith) c.joined_at-r.ensures l.invariant.1)
+    (omega arith, joined_more c.args.sets c.args.g l.m l.r c.joined_at-r.result c.requires (omega arith) c.joined_at-r.ensures l.invariant.1)
 
 pub returns : goal.returns
 returns c = joined_all c.args.sets c.args.g c.loop-m.m c.loop-m.r (omega arith) c.loop-m.invariant.1

@@ -2,8 +2,7 @@
 -- with g, and nothing else.
 -- Assumes nothing.
 use Prim.Native.Nat.{◌-◌, ◌≤◌}
-use native.Mathlib.Omega.{arith}
-use Rattle.planner_table.proofs.SetLaws.{joined_alone, JoinedBelow, joined_none, joined_more, joined_all}
+use Rattle.planner_table.proofs.SetLaws.{JoinedBelow}
 use Rattle.planner_table.proofs.sets.joined.Given as goal
 
 abbrev pub invariant-loop-m : goal.invariant-loop-m

@@ -2,16 +2,13 @@
 -- Assumes nothing.
 use mathlib.Core.Path.{sym, ◌∙◌}
 use Rattle.planner_table.proofs.SetLaws.{together_small, joined_there, joined_not}
-use borrow.Author.Rules.{rules}
 use Rattle.planner_table.proofs.sets.joined_at.Goals as goal
 
 pub returns-then-has : goal.returns-then-has
-returns-then-has c = let s = c in
-    joined_there s.args.r s.args.sets s.args.g s.args.m c.only.result (sym c.has.ensures ∙ c.if-has.true) c.only.ensures
+returns-then-has c = joined_there c.args.r c.args.sets c.args.g c.args.m c.only.result (sym c.has.ensures ∙ c.if-has.true) c.only.ensures
 
 pub returns : goal.returns
-returns c = let s = c in
-    joined_not s.args.r s.args.sets s.args.g s.args.m (sym c.has.ensures ∙ c.if-has.false)
+returns c = joined_not c.args.r c.args.sets c.args.g c.args.m (sym c.has.ensures ∙ c.if-has.false)
 
 pub only-requires : goal.only-requires
 only-requires c = together_small c.args.m c.args.g c.requires.1 c.requires.0

@@ -1,8 +1,7 @@
 -- `planner_table::sets::kept` meets its contract. The loop's invariant: of the first m sets of targets r has those that stay, and nothing else.
 -- Assumes nothing.
-use Prim.Native.Nat.{◌-◌, ◌≤◌}
 use native.Mathlib.Omega.{arith}
-use Rattle.planner_table.proofs.SetLaws.{kept_alone, KeptBelow, kept_none, kept_more, kept_all}
+use Rattle.planner_table.proofs.SetLaws.{kept_alone, kept_none, kept_more, kept_all}
 use Rattle.planner_table.proofs.sets.kept.Goals as goal
 
 pub returns-then-g-eq0 : goal.returns-then-g-eq0
@@ -17,9 +16,7 @@ kept_at-r-requires c = (c.requires, omega arith)
 
 pub loop-m-preserved : goal.loop-m-preserved
 loop-m-preserved c = let l = c.loop-m in
-    let s = c in
-    (omega arith, kept_more s.args.sets s.args.g s.args.all l.m l.r c.kept_at-r.result (omega arith) c.kept_at-r.ensures l.invariant.1)
+    (omega arith, kept_more c.args.sets c.args.g c.args.all l.m l.r c.kept_at-r.result (omega arith) c.kept_at-r.ensures l.invariant.1)
 
 pub returns : goal.returns
-returns c = let s = c in
-    kept_all s.args.sets s.args.g s.args.all c.loop-m.m c.loop-m.r (omega arith) c.loop-m.invariant.1
+returns c = kept_all c.args.sets c.args.g c.args.all c.loop-m.m c.loop-m.r (omega arith) c.loop-m.invariant.1

@@ -1,8 +1,7 @@
 -- `planner_table::sets::kept` meets its contract. The loop's invariant: of the first m sets of targets r has those that stay, and nothing else.
 -- Assumes nothing.
 use Prim.Native.Nat.{◌-◌, ◌≤◌}
-use native.Mathlib.Omega.{arith}
-use Rattle.planner_table.proofs.SetLaws.{kept_alone, KeptBelow, kept_none, kept_more, kept_all}
+use Rattle.planner_table.proofs.SetLaws.{KeptBelow}
 use Rattle.planner_table.proofs.sets.kept.Given as goal
 
 abbrev pub invariant-loop-m : goal.invariant-loop-m

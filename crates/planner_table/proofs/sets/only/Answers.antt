@@ -4,7 +4,6 @@ use mathlib.Core.Path.{ap, ◌∙◌}
 use Prim.Native.Nat.{ℕ, ◌^◌}
 use native.Mathlib.Omega.{arith}
 use Rattle.network_words.proofs.WordLaws.{only_place}
-use borrow.Author.Rules.{rules}
 use Rattle.planner_table.proofs.sets.only.Goals as goal
 
 pub returns : goal.returns

@@ -1,10 +1,7 @@
 -- `planner_table::slots::next_setting` meets its contract. The invariant: the settings up to x are skipped.
 -- Assumes nothing.
 use Prim.Native.Nat.{◌-◌}
-use native.Mathlib.Omega.{arith}
 use Rattle.planner_table.specs.Table.{Skipped}
-use Rattle.planner_table.proofs.Skipping.{skipped_one}
-use borrow.Author.Rules.{rules}
 use Rattle.planner_table.proofs.slots.next_setting.Given as goal
 
 abbrev pub invariant-loop-x : goal.invariant-loop-x

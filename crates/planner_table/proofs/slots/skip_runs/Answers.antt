@@ -1,10 +1,7 @@
 -- `planner_table::slots::skip_runs` meets its contract. The invariant: the settings up to x are skipped.
 -- Assumes nothing.
-use Prim.Native.Nat.{◌-◌}
 use native.Mathlib.Omega.{arith}
-use Rattle.planner_table.specs.Table.{Skipped}
 use Rattle.planner_table.proofs.Skipping.{skipped_none, skipped_more}
-use borrow.Author.Rules.{rules}
 use Rattle.planner_table.proofs.slots.skip_runs.Goals as goal
 
 pub loop-x-init : goal.loop-x-init

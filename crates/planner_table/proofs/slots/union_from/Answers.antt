@@ -1,11 +1,7 @@
 -- `planner_table::slots::union_from` meets its contract. The invariant: where all is 0, the first k entries are.
 -- Assumes nothing.
-use mathlib.Core.Path.{◌≡◌}
-use Prim.Native.Nat.{◌-◌, ◌≤◌}
 use native.Mathlib.Omega.{arith}
-use Rattle.planner_table.specs.Table.{NoneFrom}
 use Rattle.planner_table.proofs.Skipping.{none_more}
-use borrow.Author.Rules.{rules}
 use Rattle.planner_table.proofs.slots.union_from.Goals as goal
 
 pub loop-k-init : goal.loop-k-init

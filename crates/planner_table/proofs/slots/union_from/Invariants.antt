@@ -2,10 +2,7 @@
 -- Assumes nothing.
 use mathlib.Core.Path.{◌≡◌}
 use Prim.Native.Nat.{◌-◌, ◌≤◌}
-use native.Mathlib.Omega.{arith}
 use Rattle.planner_table.specs.Table.{NoneFrom}
-use Rattle.planner_table.proofs.Skipping.{none_more}
-use borrow.Author.Rules.{rules}
 use Rattle.planner_table.proofs.slots.union_from.Given as goal
 
 abbrev pub invariant-loop-k : goal.invariant-loop-k
