@@ -1,6 +1,5 @@
 -- `hold_lines::is_segment` meets its contract.
 -- Assumes nothing.
-use borrow.Author.Rules.{rules}
 use Rattle.hold_lines.proofs.Text.{is_segment_law}
 use Rattle.hold_lines.proofs.is_segment.Goals as goal
 

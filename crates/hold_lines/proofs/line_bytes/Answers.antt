@@ -12,30 +12,34 @@ pub is_segment-requires : goal.is_segment-requires
 is_segment-requires c = c.requires.0.most
 
 pub overflow_add-result : goal.overflow_add-result
-overflow_add-result c = let n = at_most_20 c.args.s (search rules) in
+overflow_add-result c =
+    let n = at_most_20 c.args.s (search rules) in
     omega (arith, n, c.digit_count.ensures)
 
 pub segment_len-requires : goal.segment_len-requires
 segment_len-requires c = c.requires.0.most
 
 pub overflow_add-result-then-is_segment : goal.overflow_add-result-then-is_segment
-overflow_add-result-then-is_segment c = let s = c in
-    let n = at_most_20 s.args.s (search rules) in
-    let l = s.requires.0.short s.args.s s.requires.1 (omega arith) in
+overflow_add-result-then-is_segment c =
+    let n = at_most_20 c.args.s (search rules) in
+    let l = c.requires.0.short c.args.s c.requires.1 (omega arith) in
     omega (arith, n, l, c.digit_count.ensures, c.segment_len.ensures)
 
 pub returns-then-is_segment : goal.returns-then-is_segment
-returns-then-is_segment c = let tested = c in
-    let s = tested in
-    let n = at_most_20 s.args.s (search rules) in
-    let l = s.requires.0.short s.args.s s.requires.1 (omega arith) in
+returns-then-is_segment c =
+    let a = c.args in
+    let n = at_most_20 a.s (search rules) in
+    let l = c.requires.0.short a.s c.requires.1 (omega arith) in
     let d = c.digit_count.ensures in
     let e = c.segment_len.ensures in
-    let is = sym tested.is_segment.ensures ∙ tested.if-is_segment.true in
-    ((λ bits known. omega (arith, d, e, segment_bytes s.args.nodes.now s.args.s bits known is)), omega (arith, n, l, d, e))
+    let is = sym c.is_segment.ensures ∙ c.if-is_segment.true in
+    record {
+      line_length = λ bits known. omega (arith, d, e, segment_bytes a.nodes.now a.s bits known is);
+      upper_bound = omega (arith, n, l, d, e);
+    }
 
 pub returns : goal.returns
 returns c = record {
-  line_length = (λ bits known. sym (ap length (mux_line_law _ _ bits known (sym c.is_segment.ensures ∙ c.if-is_segment.false))));
+  line_length = λ bits known. sym (ap length (mux_line_law _ _ bits known (sym c.is_segment.ensures ∙ c.if-is_segment.false)));
   upper_bound = omega arith;
 }

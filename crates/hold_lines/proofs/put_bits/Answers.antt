@@ -1,40 +1,47 @@
 -- `hold_lines::put_bits` meets its contract. The loop's invariant: the bytes of the bits from b on are written.
 -- Assumes nothing.
-use mathlib.Core.Path.{◌≡◌, refl, sym, ap, ◌∙◌}
+use mathlib.Core.Path.{refl, sym, ap, ◌∙◌}
 use mathlib.Core.List.{List}
-use Prim.Native.Nat.{ℕ, ◌+◌, ◌-◌, ◌≤◌}
+use Prim.Native.Nat.{ℕ}
 use native.Mathlib.Omega.{arith}
-use lib.ListN.{length, length-set}
-use borrow.Author.Rules.{rules}
+use lib.ListN.{length-set}
 use Rattle.network_words.specs.Words.{trit_at}
 use Rattle.plan_text.specs.Writing.{write_at}
 use Rattle.plan_text.proofs.Writing.{write_none}
-use Rattle.hold_lines.proofs.Bits.{down_to, down_none, down_more, down_done}
+use Rattle.hold_lines.proofs.Bits.{down_none, down_more, down_done}
 use Rattle.hold_lines.proofs.put_bits.Goals as goal
 
 pub loop-b-init : goal.loop-b-init
-loop-b-init c = let s = c.args in
-    (omega arith, omega arith, refl, sym (ap (λ (l : List ℕ). write_at s.at l s.out.now) (down_none s.len (trit_at s.bits s.known)) ∙ write_none _ _))
+loop-b-init c =
+    let a = c.args in
+    (omega arith, omega arith, refl, sym (ap (λ (l : List ℕ). write_at a.at l a.out.now) (down_none a.len (trit_at a.bits a.known)) ∙ write_none _ _))
 
 pub byte_at-requires : goal.byte_at-requires
 byte_at-requires c = omega (arith, c.loop-b.invariant.0, c.requires.0)
 
 pub bounds-out-next : goal.bounds-out-next
-bounds-out-next c = let v = c.loop-b.invariant in omega (arith, v.0, v.1, v.2, c.requires.1)
+bounds-out-next c =
+    let v = c.loop-b.invariant in
+    omega (arith, v.0, v.1, v.2, c.requires.1)
 
 pub loop-b-preserved : goal.loop-b-preserved
-loop-b-preserved c = let v = c.loop-b.invariant in
-    let s = c in (
+loop-b-preserved c =
+    let a = c.args in
+    let v = c.loop-b.invariant in (
       omega (arith, v.0),
       omega (arith, v.0, v.1),
       simp length-set v.2,
-      down_more s.args.len (trit_at s.args.bits s.args.known) _ _ _ _ _ _ c.loop-b-test.true v.0 s.requires.1 v.1 c.byte_at.ensures v.3,
+      down_more a.len (trit_at a.bits a.known) _ _ _ _ _ _ c.loop-b-test.true v.0 c.requires.1 v.1 c.byte_at.ensures v.3,
     )
 
 pub shape_of-out : goal.shape_of-out
 shape_of-out c = c.loop-b.invariant.2
 
 pub returns : goal.returns
-returns c = let v = c.loop-b.invariant in
-    let s = c.args in
-    (down_done s.len (trit_at s.bits s.known) _ _ _ _ _ c.loop-b-test.false v.1 v.3, omega (arith, v.1, c.loop-b-test.false))
+returns c =
+    let a = c.args in
+    let v = c.loop-b.invariant in
+    record {
+      puts = down_done a.len (trit_at a.bits a.known) _ _ _ _ _ c.loop-b-test.false v.1 v.3;
+      value = omega (arith, v.1, c.loop-b-test.false);
+    }

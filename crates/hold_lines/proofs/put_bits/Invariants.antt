@@ -1,15 +1,11 @@
 -- `hold_lines::put_bits` meets its contract. The loop's invariant: the bytes of the bits from b on are written.
 -- Assumes nothing.
-use mathlib.Core.Path.{◌≡◌, refl, sym, ap, ◌∙◌}
-use mathlib.Core.List.{List}
-use Prim.Native.Nat.{ℕ, ◌+◌, ◌-◌, ◌≤◌}
-use native.Mathlib.Omega.{arith}
-use lib.ListN.{length, length-set}
-use borrow.Author.Rules.{rules}
+use mathlib.Core.Path.{◌≡◌}
+use Prim.Native.Nat.{◌+◌, ◌-◌, ◌≤◌}
+use lib.ListN.{length}
 use Rattle.network_words.specs.Words.{trit_at}
 use Rattle.plan_text.specs.Writing.{write_at}
-use Rattle.plan_text.proofs.Writing.{write_none}
-use Rattle.hold_lines.proofs.Bits.{down_to, down_none, down_more, down_done}
+use Rattle.hold_lines.proofs.Bits.{down_to}
 use Rattle.hold_lines.proofs.put_bits.Given as goal
 
 abbrev pub invariant-loop-b : goal.invariant-loop-b

@@ -1,9 +1,7 @@
 -- `hold_lines::put_text` meets its contract. The loop's invariant: the lines of nodes 1 to s are written.
 -- Assumes nothing.
 use Prim.Native.Nat.{◌-◌, ◌≤◌}
-use native.Mathlib.Omega.{arith}
-use borrow.Author.Rules.{rules}
-use Rattle.hold_lines.proofs.Text.{words_to, PutLines, written_none, line_fits, written_more, written_all}
+use Rattle.hold_lines.proofs.Text.{PutLines}
 use Rattle.hold_lines.proofs.put_text.Given as goal
 
 abbrev pub invariant-loop-s : goal.invariant-loop-s

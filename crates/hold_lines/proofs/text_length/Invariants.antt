@@ -1,10 +1,8 @@
 -- `hold_lines::text_length` meets its contract. The loop's invariant: the sum is the bytes of the lines of nodes 1 to s.
 -- Assumes nothing.
 use Prim.Native.Nat.{◌+◌, ◌*◌, ◌-◌, ◌≤◌}
-use native.Mathlib.Omega.{arith}
-use borrow.Author.Rules.{rules}
 use Rattle.network_words.specs.Words.{word_width}
-use Rattle.hold_lines.proofs.Text.{UpToBytes, bytes_none, bytes_more, bytes_all, words_to}
+use Rattle.hold_lines.proofs.Text.{UpToBytes}
 use Rattle.hold_lines.proofs.text_length.Given as goal
 
 abbrev pub invariant-loop-s : goal.invariant-loop-s
