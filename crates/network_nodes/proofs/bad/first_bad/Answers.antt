@@ -1,12 +1,8 @@
 -- `network_nodes::bad::first_bad` meets its contract.
 -- Assumes nothing.
-use Prim.Native.Nat.{◌≤◌, ◌-◌, ◌+◌}
-use mathlib.Core.Path.{◌≡◌, refl, sym, ◌∙◌}
+use mathlib.Core.Path.{refl, sym, ◌∙◌}
 use borrow.Author.Rules.{rules}
-use Rattle.model.specs.NetworkText.{first_bad}
-use Rattle.network_path.specs.Layout.{nodes_of}
-use Rattle.network_draft.specs.Represents.{Formed}
-use Rattle.network_nodes.proofs.BadAddresses.{bad_from, bad_start, bad_hit, bad_miss, bad_end}
+use Rattle.network_nodes.proofs.BadAddresses.{bad_start, bad_hit, bad_miss, bad_end}
 use Rattle.network_nodes.proofs.bad.first_bad.Goals as goal
 
 pub loop-k-init : goal.loop-k-init
@@ -19,8 +15,7 @@ pub returns-then-is_bad : goal.returns-then-is_bad
 returns-then-is_bad c = bad_hit _ _ _ (search rules) (search rules) (sym c.is_bad.ensures ∙ c.if-is_bad.true) ∙ c.loop-k.invariant.4
 
 pub loop-k-preserved : goal.loop-k-preserved
-loop-k-preserved c = let at-loop = c in
-    (search rules, search rules, search rules, at-loop.loop-k.invariant.3, bad_miss _ _ _ (search rules) (sym c.is_bad.ensures ∙ c.if-is_bad.false) ∙ at-loop.loop-k.invariant.4)
+loop-k-preserved c = (search rules, search rules, search rules, c.loop-k.invariant.3, bad_miss _ _ _ (search rules) (sym c.is_bad.ensures ∙ c.if-is_bad.false) ∙ c.loop-k.invariant.4)
 
 pub returns : goal.returns
 returns c = bad_end _ _ _ (search rules) ∙ c.loop-k.invariant.4

@@ -1,12 +1,11 @@
 -- `network_nodes::bad::first_bad` meets its contract.
 -- Assumes nothing.
 use Prim.Native.Nat.{◌≤◌, ◌-◌, ◌+◌}
-use mathlib.Core.Path.{◌≡◌, refl, sym, ◌∙◌}
-use borrow.Author.Rules.{rules}
+use mathlib.Core.Path.{◌≡◌}
 use Rattle.model.specs.NetworkText.{first_bad}
 use Rattle.network_path.specs.Layout.{nodes_of}
 use Rattle.network_draft.specs.Represents.{Formed}
-use Rattle.network_nodes.proofs.BadAddresses.{bad_from, bad_start, bad_hit, bad_miss, bad_end}
+use Rattle.network_nodes.proofs.BadAddresses.{bad_from}
 use Rattle.network_nodes.proofs.bad.first_bad.Given as goal
 
 abbrev pub invariant-loop-k : goal.invariant-loop-k
