@@ -1,15 +1,12 @@
 -- `network_entries::has_target` meets its contract.
 -- Assumes nothing.
-use native.Mathlib.Omega.{arith}
-use borrow.Author.Rules.{rules}
 use Prim.Native.Nat.{ℕ, ◌≤◌, ◌-◌}
 use mathlib.Core.List.{List}
 use mathlib.Core.Bool.{Bool}
-use mathlib.Core.Path.{◌≡◌, refl, ◌∙◌}
+use mathlib.Core.Path.{◌≡◌}
 use Rattle.model.specs.NetworkText.{is_target}
 use Rattle.model.specs.Network.{tabulate}
 use Rattle.network_draft.specs.Represents.{target_at, targets_of, target_for}
-use Rattle.network_entries.proofs.AddingTargets.{there_start, there_hit, there_miss, there_end}
 use Rattle.network_entries.proofs.has_target.Given as goal
 
 abbrev pub invariant-loop-i : goal.invariant-loop-i

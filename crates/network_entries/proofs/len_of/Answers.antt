@@ -2,7 +2,6 @@
 -- Assumes nothing.
 use native.Mathlib.Omega.{arith}
 use mathlib.Core.Path.{sym, ap, ◌∙◌}
-use borrow.Author.Rules.{rules}
 use Rattle.model.specs.Network.{len_of}
 use Rattle.network_path.proofs.NodeLaws.{node_in, node_zero, node_beyond}
 use Rattle.network_entries.proofs.len_of.Goals as goal
@@ -14,6 +13,4 @@ pub returns-then-count-s : goal.returns-then-count-s
 returns-then-count-s c = (sym (ap len_of (node_beyond c.args.nodes.now c.args.count c.args.s c.if-count-s.true)), λ h. absurd (omega arith))
 
 pub returns : goal.returns
-returns c = let at-if1 = c in
-    let at-start = at-if1 in
-    (c.segment_len.ensures ∙ sym (ap len_of (node_in at-start.args.nodes.now at-start.args.count at-start.args.s at-if1.if-s-lt1.false c.if-count-s.false)), λ h. (at-if1.if-s-lt1.false, c.if-count-s.false))
+returns c = (c.segment_len.ensures ∙ sym (ap len_of (node_in c.args.nodes.now c.args.count c.args.s c.if-s-lt1.false c.if-count-s.false)), λ h. (c.if-s-lt1.false, c.if-count-s.false))
