@@ -1,9 +1,7 @@
 -- `planner_steering::clear_words` meets its contract. The invariant: the words of the segments passed are 0.
 -- Assumes nothing.
 use Rattle.planner_steering.proofs.Wording.{cleared_none, cleared_more, cleared_all}
-use Rattle.planner_steering.specs.Steering.{Cleared}
 use native.Mathlib.Omega.{arith}
-use Prim.Native.Nat.{◌≤◌, ◌-◌}
 use borrow.Author.Rules.{rules}
 use Rattle.planner_steering.proofs.clear_words.Goals as goal
 

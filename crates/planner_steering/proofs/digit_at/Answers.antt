@@ -1,7 +1,6 @@
 -- `planner_steering::digit_at` meets its contract. A bit that is not known has the digit 2.
 -- Assumes nothing.
 use Rattle.planner_steering.proofs.Numbering.{digit_none, digit_some}
-use borrow.Author.Rules.{rules}
 use Rattle.planner_steering.proofs.digit_at.Goals as goal
 
 pub returns-then-bit_at-eq0 : goal.returns-then-bit_at-eq0

@@ -1,9 +1,7 @@
 -- `planner_steering::list_segment` meets its contract. The invariant: the bits listed and the bits to come make the whole.
 -- Assumes nothing.
-use Rattle.planner_steering.proofs.Listing.{Marking, marking_none, marking_room, marking_set, marking_clear, marking_all}
+use Rattle.planner_steering.proofs.Listing.{marking_none, marking_room, marking_set, marking_clear, marking_all}
 use native.Mathlib.Omega.{arith}
-use Prim.Native.Nat.{◌-◌}
-use borrow.Author.Rules.{rules}
 use Rattle.planner_steering.proofs.list_segment.Goals as goal
 use Rattle.planner_steering.proofs.list_segment.Goals.{then-bit_at-eq1, else-bit_at-eq1}
 

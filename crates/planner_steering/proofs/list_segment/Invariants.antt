@@ -1,10 +1,7 @@
 -- `planner_steering::list_segment` meets its contract. The invariant: the bits listed and the bits to come make the whole.
 -- Assumes nothing.
-use Rattle.planner_steering.proofs.Listing.{Marking, marking_none, marking_room, marking_set, marking_clear, marking_all}
-use mathlib.Core.Logic.{⊎_elim}
-use native.Mathlib.Omega.{arith}
+use Rattle.planner_steering.proofs.Listing.{Marking}
 use Prim.Native.Nat.{◌-◌}
-use borrow.Author.Rules.{rules}
 use Rattle.planner_steering.proofs.list_segment.Given as goal
 
 abbrev pub invariant-loop-b : goal.invariant-loop-b

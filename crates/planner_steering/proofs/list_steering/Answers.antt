@@ -1,9 +1,7 @@
 -- `planner_steering::list_steering` meets its contract. The invariant: the bits listed and those of the segments to come make the whole.
 -- Assumes nothing.
-use Rattle.planner_steering.proofs.Listing.{Gathering, gathering_none, gathering_room, gathering_short, gathering_more, gathering_all}
+use Rattle.planner_steering.proofs.Listing.{gathering_none, gathering_room, gathering_short, gathering_more, gathering_all}
 use native.Mathlib.Omega.{arith}
-use Prim.Native.Nat.{◌+◌, ◌-◌}
-use borrow.Author.Rules.{rules}
 use Rattle.planner_steering.proofs.list_steering.Goals as goal
 
 pub loop-s-init : goal.loop-s-init

@@ -1,9 +1,7 @@
 -- `planner_steering::list_steering` meets its contract. The invariant: the bits listed and those of the segments to come make the whole.
 -- Assumes nothing.
-use Rattle.planner_steering.proofs.Listing.{Gathering, gathering_none, gathering_room, gathering_short, gathering_more, gathering_all}
-use native.Mathlib.Omega.{arith}
+use Rattle.planner_steering.proofs.Listing.{Gathering}
 use Prim.Native.Nat.{◌+◌, ◌-◌}
-use borrow.Author.Rules.{rules}
 use Rattle.planner_steering.proofs.list_steering.Given as goal
 
 abbrev pub invariant-loop-s : goal.invariant-loop-s

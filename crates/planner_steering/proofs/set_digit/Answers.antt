@@ -3,7 +3,6 @@
 use mathlib.Core.Path.{◌≡◌}
 use Rattle.planner_steering.proofs.Wording.{digit_unknown, digit_zero, digit_one}
 use native.Mathlib.Omega.{arith}
-use borrow.Author.Rules.{rules}
 use Rattle.planner_steering.proofs.set_digit.Goals as goal
 
 pub returns-then-d-eq2 : goal.returns-then-d-eq2
@@ -13,6 +12,5 @@ pub returns-then-d-eq0 : goal.returns-then-d-eq0
 returns-then-d-eq0 c = digit_zero _ _ _ _ _ c.requires.1 _ c.if-d-eq0.true c.mark_bit.ensures
 
 pub returns : goal.returns
-returns c = let s = c in
-    let e : s.args.d ≡ 1 = omega (arith, s.requires.0, c.if-d-eq2.false, c.if-d-eq0.false) in
-    digit_one _ _ _ _ _ s.requires.1 _ _ e c.mark_bit.ensures c.mark_bit-2.ensures
+returns c = let e : c.args.d ≡ 1 = omega (arith, c.requires.0, c.if-d-eq2.false, c.if-d-eq0.false) in
+    digit_one _ _ _ _ _ c.requires.1 _ _ e c.mark_bit.ensures c.mark_bit-2.ensures

@@ -1,9 +1,7 @@
 -- `planner_steering::set_words` meets its contract. The invariant: the bits passed have their digits, the others are clear.
 -- Assumes nothing.
-use Rattle.planner_steering.proofs.Wording.{Setting, setting_none, setting_more, setting_all}
-use native.Mathlib.Omega.{arith}
+use Rattle.planner_steering.proofs.Wording.{Setting}
 use Prim.Native.Nat.{◌-◌}
-use borrow.Author.Rules.{rules}
 use Rattle.planner_steering.proofs.set_words.Given as goal
 
 abbrev pub invariant-loop-j : goal.invariant-loop-j

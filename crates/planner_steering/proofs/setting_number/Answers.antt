@@ -1,10 +1,8 @@
 -- `planner_steering::setting_number` meets its contract. The invariant: the number of the digits from j on.
 -- Assumes nothing.
-use Rattle.planner_steering.proofs.Numbering.{Numbered, numbered_none, numbered_more, numbered_all}
-use Rattle.network_path.specs.Layout.{look_in}
+use Rattle.planner_steering.proofs.Numbering.{numbered_none, numbered_more, numbered_all}
 use native.Mathlib.Omega.{arith}
 use Prim.Native.Nat.{◌-◌}
-use borrow.Author.Rules.{rules}
 use Rattle.planner_steering.proofs.setting_number.Goals as goal
 
 pub loop-j-init : goal.loop-j-init

@@ -1,10 +1,7 @@
 -- `planner_steering::setting_number` meets its contract. The invariant: the number of the digits from j on.
 -- Assumes nothing.
-use Rattle.planner_steering.proofs.Numbering.{Numbered, numbered_none, numbered_more, numbered_all}
+use Rattle.planner_steering.proofs.Numbering.{Numbered}
 use Rattle.network_path.specs.Layout.{look_in}
-use native.Mathlib.Omega.{arith}
-use Prim.Native.Nat.{◌-◌}
-use borrow.Author.Rules.{rules}
 use Rattle.planner_steering.proofs.setting_number.Given as goal
 
 abbrev pub invariant-loop-j : goal.invariant-loop-j
