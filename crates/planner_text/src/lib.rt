@@ -31,8 +31,8 @@ fn as_index(c: u8) -> usize
 
 // The setting that choice c leads to from setting x.
 fn land_of(rows: &Rows, x: usize, c: usize) -> usize
-    requires x_lt_max_settings { (x < max_settings) × Landing rows.now x }
-    requires c_bound { c < row_number rows.now x 1 }
+    requires landing { (x < max_settings) × Landing rows.now x }
+    requires chosen { c < row_number rows.now x 1 }
     ensures { LandIn rows.now x c result }
 {
     let mut lands: Lands = [0; MAX_CHOICES];
@@ -52,7 +52,7 @@ fn text_length<'a>(
 ) -> usize
     requires countable { Countable nodes.now steering.now problem start picked.now n }
     requires rows_right { RowsRight nodes.now steering.now problem rows.old }
-    ensures rows_right_2 { RowsRight nodes.now steering.now problem rows.new }
+    ensures rows_right { RowsRight nodes.now steering.now problem rows.new }
     ensures counts { Counts nodes.now steering.now problem start picked.now n result }
 {
     let mut sum: usize = 0;

@@ -6,10 +6,10 @@ use borrow.Author.Rules.{rules}
 use Rattle.planner_text.proofs.land_of.Goals as goal
 
 pub offset_bounds-lands-c : goal.offset_bounds-lands-c
-offset_bounds-lands-c c = let p = c.requires in omega (arith, land_listed p.1 c.list_lands.ensures p.0.1)
+offset_bounds-lands-c c = let p = c.requires in omega (arith, land_listed p.chosen c.list_lands.ensures p.landing.1)
 
 pub bounds-lands-c : goal.bounds-lands-c
-bounds-lands-c c = let p = c.requires in omega (arith, land_listed p.1 c.list_lands.ensures p.0.1)
+bounds-lands-c c = let p = c.requires in omega (arith, land_listed p.chosen c.list_lands.ensures p.landing.1)
 
 pub returns : goal.returns
-returns c = let p = c.requires in land_in p.1 c.list_lands.ensures p.0.1 c.wide.ensures
+returns c = let p = c.requires in land_in p.chosen c.list_lands.ensures p.landing.1 c.wide.ensures

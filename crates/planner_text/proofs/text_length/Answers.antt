@@ -12,50 +12,49 @@ pub loop-i-init : goal.loop-i-init
 loop-i-init c = (c.requires.rows_right, counting_none)
 
 pub know_row-requires : goal.know_row-requires
-know_row-requires c = let l = c in
-    let p = l.requires.countable in
-    ((p.0, p.2.prepared), (turn_small p.2 (l.loop-i.invariant.1 p.0 p.1 p.2).passed, l.loop-i.invariant.0))
+know_row-requires c = let p = c.requires.countable in record {
+  plannable = (p.0, p.2.prepared);
+  x_lt_max_settings = (turn_small p.2 (c.loop-i.invariant.1 p.0 p.1 p.2).passed, c.loop-i.invariant.0);
+}
 
 pub number-requires : goal.number-requires
-number-requires c = let l = c in
-    let p = l.requires.countable in
-    (turn_small p.2 (l.loop-i.invariant.1 p.0 p.1 p.2).passed, omega arith)
+number-requires c = let p = c.requires.countable in
+    (turn_small p.2 (c.loop-i.invariant.1 p.0 p.1 p.2).passed, omega arith)
 
+-- its line is short
 pub overflow_add-sum : goal.overflow_add-sum
 overflow_add-sum c =
-    let line-fits : c.loop-i.sum + (5 + c.number.result) ≤ 64080 =
-        let row = c.know_row.ensures in
-    let test = c in
-    counting_fits test.loop-i.invariant.1 test.loop-i-test.true row.0 row.1 c.number.ensures test.requires.countable.2 in
-    omega (arith, line-fits)
+    let row = c.know_row.ensures in
+    let fits : c.loop-i.sum + (5 + c.number.result) ≤ 64080 =
+    counting_fits c.loop-i.invariant.1 c.loop-i-test.true row.rows_right row.x_after c.number.ensures c.requires.countable.2 in
+    omega (arith, fits)
 
 pub overflow_add-sum-in-loop-i : goal.overflow_add-sum-in-loop-i
 overflow_add-sum-in-loop-i c =
-    let line-fits : c.loop-i.sum + (5 + c.number.result) ≤ 64080 =
-        let row = c.know_row.ensures in
-    let test = c in
-    counting_fits test.loop-i.invariant.1 test.loop-i-test.true row.0 row.1 c.number.ensures test.requires.countable.2 in
-    omega (arith, line-fits)
+    let row = c.know_row.ensures in
+    let fits : c.loop-i.sum + (5 + c.number.result) ≤ 64080 =
+    counting_fits c.loop-i.invariant.1 c.loop-i-test.true row.rows_right row.x_after c.number.ensures c.requires.countable.2 in
+    omega (arith, fits)
 
 pub bounds-picked-i : goal.bounds-picked-i
-bounds-picked-i c = let test = c in
-    omega (arith, test.loop-i-test.true, test.requires.countable.2.picks.most)
+bounds-picked-i c = omega (arith, c.loop-i-test.true, c.requires.countable.2.picks.most)
 
 pub land_of-x-requires : goal.land_of-x-requires
-land_of-x-requires c = let row = c.know_row.ensures in
-    let test = c in
-    let p = test.requires.countable in
-    let f = (test.loop-i.invariant.1 p.0 p.1 p.2).passed in
-    ((turn_small p.2 f, (p.0, turn_lands p.2 f row.0 row.1)), turn_choice p.2 f row.0 row.1 test.loop-i-test.true c.as_index.ensures)
+land_of-x-requires c =
+    let row = c.know_row.ensures in
+    let p = c.requires.countable in
+    let f = (c.loop-i.invariant.1 p.0 p.1 p.2).passed in record {
+      landing = (turn_small p.2 f, (p.0, turn_lands p.2 f row.rows_right row.x_after));
+      chosen = turn_choice p.2 f row.rows_right row.x_after c.loop-i-test.true c.as_index.ensures;
+    }
 
 pub loop-i-preserved : goal.loop-i-preserved
-loop-i-preserved c = let number = c in
-    let row = number.know_row.ensures in
-    let test = number in
-    (row.0, counting_more test.loop-i.invariant.1 test.loop-i-test.true row.0 row.1 number.number.ensures c.as_index.ensures c.land_of-x.ensures)
+loop-i-preserved c =
+    let row = c.know_row.ensures in
+    (row.rows_right, counting_more c.loop-i.invariant.1 c.loop-i-test.true row.rows_right row.x_after c.number.ensures c.as_index.ensures c.land_of-x.ensures)
 
 pub returns : goal.returns
 returns c = record {
-    rows_right_2 = c.loop-i.invariant.0;
-    counts = counting_all c.loop-i.invariant.1 c.loop-i-test.false;
-  }
+  rows_right = c.loop-i.invariant.0;
+  counts = counting_all c.loop-i.invariant.1 c.loop-i-test.false;
+}
