@@ -11,11 +11,13 @@ use Rattle.clock_answer.proofs.print_clocks.Goals as goal
 
 pub put_operations-requires : goal.put_operations-requires
 put_operations-requires c = let g = form_good _ _ _ c.check_form-form.ensures c.in-Good.is in
-    ((g.plan, g.reads), omega (arith, (text_of _ _ g.reads).short, c.put_operations-arg-1.given.0.1))
+    record { has_form = (g.plan, g.reads); plan_in_bounds = omega (arith, (text_of _ _ g.reads).short) }
 
 pub returns-in-Good : goal.returns-in-Good
-returns-in-Good c = printed_to _ _ (at_front _ _ refl c.put_operations.ensures)
+returns-in-Good c = let w = printed_to _ _ (at_front _ _ refl c.put_operations.ensures) in
+    record { printed_to = w.0; prefix_len = w.1 }
 
 pub returns-in-Refused : goal.returns-in-Refused
 returns-in-Refused c = let bad = form_refused _ _ _ c.check_form-form.ensures c.in-Refused.is in
-    printed_to _ _ (at_front _ _ (clocks_refused _ _ _ bad) c.put_refusal.ensures)
+    let w = printed_to _ _ (at_front _ _ (clocks_refused _ _ _ bad) c.put_refusal.ensures) in
+    record { printed_to = w.0; prefix_len = w.1 }

@@ -14,33 +14,20 @@ pub bits_at-bits-requires : goal.bits_at-bits-requires
 bits_at-bits-requires c = omega (arith, line_within _ _ _ _ _ c.loop-at.invariant c.loop-at-test.true _ refl)
 
 pub put_operation-next-requires : goal.put_operation-next-requires
-put_operation-next-requires c = let l = c in
-    omega (arith, line_fits _ _ _ _ _ l.loop-at.invariant c.loop-at-test.true _ c.bits_at-bits.ensures l.requires.plan_in_bounds)
+put_operation-next-requires c = omega (arith, line_fits _ _ _ _ _ c.loop-at.invariant c.loop-at-test.true _ c.bits_at-bits.ensures c.requires.plan_in_bounds)
 
 pub overflow_add-at : goal.overflow_add-at
-overflow_add-at c =
-    let within : c.loop-at.at + (5 + length c.bits_at-bits.result.now) ≤ length c.args.plan.now =
-        line_within _ _ _ _ _ c.loop-at.invariant c.loop-at-test.true _ c.bits_at-bits.ensures in
-    omega (arith, within)
+overflow_add-at c = omega (arith, line_within _ _ _ _ _ c.loop-at.invariant c.loop-at-test.true _ c.bits_at-bits.ensures)
 
 pub overflow_add-at-in-loop-at : goal.overflow_add-at-in-loop-at
-overflow_add-at-in-loop-at c =
-    let within : c.loop-at.at + (5 + length c.bits_at-bits.result.now) ≤ length c.args.plan.now =
-        line_within _ _ _ _ _ c.loop-at.invariant c.loop-at-test.true _ c.bits_at-bits.ensures in
-    omega (arith, within)
+overflow_add-at-in-loop-at c = omega (arith, line_within _ _ _ _ _ c.loop-at.invariant c.loop-at-test.true _ c.bits_at-bits.ensures)
 
 pub loop-at-smaller : goal.loop-at-smaller
-loop-at-smaller c =
-    let within : c.loop-at.at + (5 + length c.bits_at-bits.result.now) ≤ length c.args.plan.now =
-        line_within _ _ _ _ _ c.loop-at.invariant c.loop-at-test.true _ c.bits_at-bits.ensures in
-    omega (arith, within)
+loop-at-smaller c = omega (arith, line_within _ _ _ _ _ c.loop-at.invariant c.loop-at-test.true _ c.bits_at-bits.ensures)
 
 pub loop-at-preserved : goal.loop-at-preserved
-loop-at-preserved c = let found = c in
-    let l = found in
-    let wrote = c.put_operation-next in
-    clocked_line _ _ _ _ _ l.loop-at.invariant found.loop-at-test.true _ found.bits_at-bits.ensures l.requires.plan_in_bounds
-    _ _ _ wrote.ensures wrote.auto.0 refl
+loop-at-preserved c = let wrote = c.put_operation-next in
+    clocked_line _ _ _ _ _ c.loop-at.invariant c.loop-at-test.true _ c.bits_at-bits.ensures c.requires.plan_in_bounds _ _ _ wrote.ensures wrote.auto.out refl
 
 pub shape_of-out : goal.shape_of-out
 shape_of-out c = c.loop-at.invariant.kept
