@@ -10,7 +10,14 @@ use Rattle.clock_follower.specs.Counts.{progress_for}
 use Rattle.recover_answer.proofs.print_end.Goals as goal
 
 pub returns-in-Refused : goal.returns-in-Refused
-returns-in-Refused c = printed_to _ _ (at_front _ _ (shown_end_refused (progress_for c.args.p) c.args.rest.now c.args.plan.now _ _ (sym (ap end_answer c.in-Refused.is) ∙ c.recover_end-ended.ensures)) c.put_refusal.ensures)
+returns-in-Refused c = let a = c.args in
+    let e = sym (ap end_answer c.in-Refused.is) ∙ c.recover_end-ended.ensures in
+    let w = printed_to _ _ (at_front _ _ (shown_end_refused (progress_for a.p) a.rest.now a.plan.now _ _ e) c.put_refusal.ensures) in
+    record { printed_to = w.0; prefix_len = w.1 }
 
 pub returns-in-Bytes : goal.returns-in-Bytes
-returns-in-Bytes c = let p = progress_for c.args.p in let e = sym (ap end_answer c.in-Bytes.is) ∙ c.recover_end-ended.ensures in printed_to _ _ (stands _ _ _ (shown_plan p c.args.rest.now c.args.plan.now _ e) (omega (arith, plan_fits p c.args.rest.now c.args.plan.now _ e, c.requires)))
+returns-in-Bytes c = let a = c.args in
+    let p = progress_for a.p in
+    let e = sym (ap end_answer c.in-Bytes.is) ∙ c.recover_end-ended.ensures in
+    let w = printed_to _ _ (stands _ _ _ (shown_plan p a.rest.now a.plan.now _ e) (omega (arith, plan_fits p a.rest.now a.plan.now _ e, c.requires))) in
+    record { printed_to = w.0; prefix_len = w.1 }
