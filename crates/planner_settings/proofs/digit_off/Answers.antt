@@ -1,7 +1,6 @@
 -- `planner_settings::digit_off` meets its contract. The digit is 0 where the segment is marked.
 -- Assumes nothing.
 use Rattle.planner_settings.proofs.Basing.{power_positive, digit_on, digit_off}
-use borrow.Author.Rules.{rules}
 use Rattle.planner_settings.proofs.digit_off.Goals as goal
 
 pub returns-then-marks-s-eq1 : goal.returns-then-marks-s-eq1

@@ -1,10 +1,7 @@
 -- `planner_settings::indices_in` meets its contract. The invariant: the indices listed and those to come make the whole.
 -- Assumes nothing.
-use Rattle.planner_settings.proofs.Ordering.{Indexing, indexing_none, indexing_room, indexing_hit, indexing_miss, indexing_all}
-use mathlib.Core.Logic.{⊎_elim}
-use native.Mathlib.Omega.{arith}
+use Rattle.planner_settings.proofs.Ordering.{Indexing}
 use Prim.Native.Nat.{◌-◌}
-use borrow.Author.Rules.{rules}
 use Rattle.planner_settings.proofs.indices_in.Given as goal
 
 abbrev pub invariant-loop-j : goal.invariant-loop-j

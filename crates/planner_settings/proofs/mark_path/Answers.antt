@@ -1,9 +1,7 @@
 -- `planner_settings::mark_path` meets its contract. The invariant: the segments passed are marked.
 -- Assumes nothing.
-use Rattle.planner_settings.proofs.PathMarks.{MarkedTo, marked_none, marked_within, marked_more, marked_all}
+use Rattle.planner_settings.proofs.PathMarks.{marked_none, marked_within, marked_more, marked_all}
 use native.Mathlib.Omega.{arith}
-use Prim.Native.Nat.{◌-◌}
-use borrow.Author.Rules.{rules}
 use Rattle.planner_settings.proofs.mark_path.Goals as goal
 
 pub loop-i-init : goal.loop-i-init

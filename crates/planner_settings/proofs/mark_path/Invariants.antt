@@ -1,9 +1,7 @@
 -- `planner_settings::mark_path` meets its contract. The invariant: the segments passed are marked.
 -- Assumes nothing.
-use Rattle.planner_settings.proofs.PathMarks.{MarkedTo, marked_none, marked_within, marked_more, marked_all}
-use native.Mathlib.Omega.{arith}
+use Rattle.planner_settings.proofs.PathMarks.{MarkedTo}
 use Prim.Native.Nat.{◌-◌}
-use borrow.Author.Rules.{rules}
 use Rattle.planner_settings.proofs.mark_path.Given as goal
 
 abbrev pub invariant-loop-i : goal.invariant-loop-i

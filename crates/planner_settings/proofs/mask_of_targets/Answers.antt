@@ -2,8 +2,7 @@
 -- Assumes nothing.
 use Prim.Native.Nat.{◌≤◌, ◌-◌}
 use native.Mathlib.Omega.{arith}
-use Rattle.planner_settings.proofs.Basing.{Masked, masked_none, masked_small, masked_more, masked_all}
-use borrow.Author.Rules.{rules}
+use Rattle.planner_settings.proofs.Basing.{masked_none, masked_small, masked_more, masked_all}
 use Rattle.planner_settings.proofs.mask_of_targets.Goals as goal
 
 pub loop-i-init : goal.loop-i-init

@@ -1,9 +1,6 @@
 -- `planner_settings::mask_of_targets` meets its contract. The invariant: the number of the targets from i on.
 -- Assumes nothing.
-use Prim.Native.Nat.{◌≤◌, ◌-◌}
-use native.Mathlib.Omega.{arith}
-use Rattle.planner_settings.proofs.Basing.{Masked, masked_none, masked_small, masked_more, masked_all}
-use borrow.Author.Rules.{rules}
+use Rattle.planner_settings.proofs.Basing.{Masked}
 use Rattle.planner_settings.proofs.mask_of_targets.Given as goal
 
 abbrev pub invariant-loop-i : goal.invariant-loop-i

@@ -1,9 +1,7 @@
 -- `planner_settings::order_of` meets its contract. The invariant: the indices listed and those of the segments to come make the whole.
 -- Assumes nothing.
-use Rattle.planner_settings.proofs.Ordering.{Ordering, ordering_none, ordering_within, ordering_room, ordering_more, ordering_all}
-use native.Mathlib.Omega.{arith}
+use Rattle.planner_settings.proofs.Ordering.{Ordering}
 use Prim.Native.Nat.{◌-◌}
-use borrow.Author.Rules.{rules}
 use Rattle.planner_settings.proofs.order_of.Given as goal
 
 abbrev pub invariant-loop-i : goal.invariant-loop-i

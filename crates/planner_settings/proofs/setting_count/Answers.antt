@@ -3,7 +3,6 @@
 use mathlib.Core.Path.{sym, ap}
 use Prim.Native.Nat.{ℕ, ◌^◌}
 use native.Mathlib.Omega.{arith}
-use borrow.Author.Rules.{rules}
 use Rattle.planner_settings.proofs.setting_count.Goals as goal
 
 pub returns-then-k-eq6 : goal.returns-then-k-eq6
