@@ -3,13 +3,10 @@
 -- Assumes nothing.
 use lib.ListN.{get_or}
 use Rattle.network_reader.proofs.Counting.{sum_start, sum_step, sum_end}
-use Rattle.network_words.specs.Words.{word_width}
-use Rattle.network_draft.specs.Represents.{Short}
-use Rattle.network_reader.specs.Counts.{count_in, count_from}
+use Rattle.network_reader.specs.Counts.{count_in}
 use borrow.Author.Rules.{rules}
 use native.Mathlib.Omega.{arith}
-use Prim.Native.Nat.{◌+◌, ◌-◌, ◌*◌, ◌≤◌}
-use mathlib.Core.Path.{◌≡◌, ap}
+use mathlib.Core.Path.{ap}
 use Rattle.network_reader.proofs.counts.steering_count.Goals as goal
 
 pub loop-s-init : goal.loop-s-init
@@ -27,16 +24,13 @@ overflow_add-sum c = let l = c.loop-s in
     search rules
 
 pub loop-s-preserved : goal.loop-s-preserved
-loop-s-preserved c = let at-loop = c in
-    let l = at-loop.loop-s in
-    let a = at-loop.args in
+loop-s-preserved c = let l = c.loop-s in
     let len = c.segment_len.ensures in
     let h = l.invariant.5 l.s (search rules) (search rules) in
-    let k = sum_step a.nodes.now a.steering.now l.s a.count (search rules) in
-    let e = ap (count_in (get_or a.steering.now l.s 0) 0) len in
+    let k = sum_step c.args.nodes.now c.args.steering.now l.s c.args.count (search rules) in
+    let e = ap (count_in (get_or c.args.steering.now l.s 0) 0) len in
     (search rules, search rules, search rules, omega (arith, h, c.steering_in-sum.ensures.1, len, l.invariant.3), omega (arith, l.invariant.4, c.steering_in-sum.ensures.0, e, k), l.invariant.5)
 
 pub returns : goal.returns
-returns c = let a = c.args in
-    let l = c.loop-s in
-    omega (arith, l.invariant.4, sum_end a.nodes.now a.steering.now l.s a.count (search rules))
+returns c = let l = c.loop-s in
+    omega (arith, l.invariant.4, sum_end c.args.nodes.now c.args.steering.now l.s c.args.count (search rules))

@@ -1,15 +1,11 @@
 -- `network_reader::counts::steering_count` meets its contract. The invariant: sum and the bits of the segments from s on make the whole
 -- count, and sum is at most a word's width for each segment passed.
 -- Assumes nothing.
-use lib.ListN.{get_or}
-use Rattle.network_reader.proofs.Counting.{sum_start, sum_step, sum_end}
 use Rattle.network_words.specs.Words.{word_width}
 use Rattle.network_draft.specs.Represents.{Short}
-use Rattle.network_reader.specs.Counts.{count_in, count_from}
-use borrow.Author.Rules.{rules}
-use native.Mathlib.Omega.{arith}
+use Rattle.network_reader.specs.Counts.{count_from}
 use Prim.Native.Nat.{◌+◌, ◌-◌, ◌*◌, ◌≤◌}
-use mathlib.Core.Path.{◌≡◌, ap}
+use mathlib.Core.Path.{◌≡◌}
 use Rattle.network_reader.proofs.counts.steering_count.Given as goal
 
 abbrev pub invariant-loop-s : goal.invariant-loop-s

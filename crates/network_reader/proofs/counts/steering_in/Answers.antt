@@ -1,13 +1,10 @@
 -- `network_reader::counts::steering_in` meets its contract.
 -- Assumes nothing.
-use Rattle.network_words.specs.Words.{word_width, word_bit}
+use Rattle.network_words.specs.Words.{word_bit}
 use Rattle.network_words.proofs.WordLaws.{value_small}
 use Rattle.network_reader.proofs.Counting.{count_start, count_step, count_end}
-use Rattle.network_reader.specs.Counts.{count_in}
 use borrow.Author.Rules.{rules}
 use native.Mathlib.Omega.{arith}
-use Prim.Native.Nat.{◌+◌, ◌-◌, ◌≤◌}
-use mathlib.Core.Path.{◌≡◌}
 use Rattle.network_reader.proofs.counts.steering_in.Goals as goal
 
 pub loop-b-init : goal.loop-b-init
@@ -17,9 +14,7 @@ pub overflow_add-sum : goal.overflow_add-sum
 overflow_add-sum c = let e = value_small (word_bit c.args.word c.loop-b.b) in search rules
 
 pub loop-b-preserved : goal.loop-b-preserved
-loop-b-preserved c = let at-loop = c in
-    let at-start = at-loop in
-    let e = value_small (word_bit at-start.args.word at-loop.loop-b.b) in let k = count_step at-start.args.word at-loop.loop-b.b at-start.args.len (search rules) in (search rules, search rules, search rules, omega (arith, at-loop.loop-b.invariant.3, c.bit_at-sum.ensures, k))
+loop-b-preserved c = let e = value_small (word_bit c.args.word c.loop-b.b) in let k = count_step c.args.word c.loop-b.b c.args.len (search rules) in (search rules, search rules, search rules, omega (arith, c.loop-b.invariant.3, c.bit_at-sum.ensures, k))
 
 pub returns : goal.returns
 returns c = let k = count_end c.args.word c.loop-b.b c.args.len (search rules) in (omega (arith, c.loop-b.invariant.3, k), search rules)

@@ -1,11 +1,7 @@
 -- `network_reader::counts::steering_in` meets its contract.
 -- Assumes nothing.
-use Rattle.network_words.specs.Words.{word_width, word_bit}
-use Rattle.network_words.proofs.WordLaws.{value_small}
-use Rattle.network_reader.proofs.Counting.{count_start, count_step, count_end}
+use Rattle.network_words.specs.Words.{word_width}
 use Rattle.network_reader.specs.Counts.{count_in}
-use borrow.Author.Rules.{rules}
-use native.Mathlib.Omega.{arith}
 use Prim.Native.Nat.{◌+◌, ◌-◌, ◌≤◌}
 use mathlib.Core.Path.{◌≡◌}
 use Rattle.network_reader.proofs.counts.steering_in.Given as goal

@@ -5,69 +5,49 @@ use Rattle.network_draft.proofs.Representing.{agrees_same, agrees_refused, repre
 use Rattle.model.specs.Limits.{max_len}
 use Rattle.model.specs.NetworkText.{add_line}
 use mathlib.Core.Path.{ap}
-use borrow.Author.Rules.{rules}
 use Rattle.network_reader.proofs.reader.add_line.Goals as goal
 
 pub add_node-requires : goal.add_node-requires
-add_node-requires c = let at_entry_lem = c in
-    let at-parse = at_entry_lem in
-    let w = at-parse.requires.1 in
-    ((entry_good _ _ at-parse.parse-p.ensures _ at_entry_lem.in-Node.is).0, w.in-limits, w.sized)
+add_node-requires c = let w = c.requires.1 in
+    ((entry_good _ _ c.parse-p.ensures _ c.in-Node.is).0, w.in_limits, w.sized)
 
 pub add_out-requires : goal.add_out-requires
 add_out-requires c = let w = c.requires.1 in
-    (w.in-limits, represented_formed w)
+    (w.in_limits, represented_formed w)
 
 pub add_hold-refusal-requires : goal.add_hold-refusal-requires
 add_hold-refusal-requires c = let w = c.requires.1 in
-    (w.in-limits, represented_words w, w.sized.bit-words, w.sized.known-words, w.sized.held-flags)
+    (w.in_limits, represented_words w, w.sized.bit_words, w.sized.known_words, w.sized.held_flags)
 
 pub add_write-requires : goal.add_write-requires
 add_write-requires c = let w = c.requires.1 in
-    (w.in-limits, represented_words w)
+    (w.in_limits, represented_words w)
 
 pub returns-in-Wrong : goal.returns-in-Wrong
-returns-in-Wrong c = let at-parse = c in
-    let a = at-parse.args in
-    let is = line_is a.line.now at-parse.parse-p.result at-parse.parse-p.ensures _ c.in-Wrong.is in
-    λ d w. agrees_refused _ _ _ 1 a.n (ap (add_line max_len d a.n) is) c.answer.ensures.0
+returns-in-Wrong c = let is = line_is c.args.line.now c.parse-p.result c.parse-p.ensures _ c.in-Wrong.is in
+    λ d w. agrees_refused _ _ _ 1 c.args.n (ap (add_line max_len d c.args.n) is) c.answer.ensures.0
 
 pub returns-in-Node : goal.returns-in-Node
-returns-in-Node c = let at_entry_lem = c in
-    let at-parse = at_entry_lem in
-    let a = at-parse.args in
-    let is = line_is a.line.now at-parse.parse-p.result at-parse.parse-p.ensures _ at_entry_lem.in-Node.is in
-    let good = entry_good a.line.now at-parse.parse-p.result at-parse.parse-p.ensures _ at_entry_lem.in-Node.is in
-    λ d w. agrees_same _ _ _ _ (ap (add_line max_len d a.n) is) (c.add_node.ensures d good.1 w)
+returns-in-Node c = let is = line_is c.args.line.now c.parse-p.result c.parse-p.ensures _ c.in-Node.is in
+    let good = entry_good c.args.line.now c.parse-p.result c.parse-p.ensures _ c.in-Node.is in
+    λ d w. agrees_same _ _ _ _ (ap (add_line max_len d c.args.n) is) (c.add_node.ensures d good.1 w)
 
 pub returns-in-Out : goal.returns-in-Out
-returns-in-Out c = let at-entry2 = c in
-    let at-parse = at-entry2 in
-    let a = at-parse.args in
-    let is = line_is a.line.now at-parse.parse-p.result at-parse.parse-p.ensures _ at-entry2.in-Out.is in
-    λ d w. agrees_same _ _ _ _ (ap (add_line max_len d a.n) is) (c.add_out.ensures a.bits.now a.known.now a.steering.now a.held.now d w)
+returns-in-Out c = let is = line_is c.args.line.now c.parse-p.result c.parse-p.ensures _ c.in-Out.is in
+    λ d w. agrees_same _ _ _ _ (ap (add_line max_len d c.args.n) is) (c.add_out.ensures c.args.bits.now c.args.known.now c.args.steering.now c.args.held.now d w)
 
 pub returns-in-Hold : goal.returns-in-Hold
-returns-in-Hold c = let at-entry3 = c in
-    let at-parse = at-entry3 in
-    let a = at-parse.args in
-    let is = line_is a.line.now at-parse.parse-p.result at-parse.parse-p.ensures _ at-entry3.in-Hold.is in
-    let good = entry_good a.line.now at-parse.parse-p.result at-parse.parse-p.ensures _ at-entry3.in-Hold.is in
+returns-in-Hold c = let is = line_is c.args.line.now c.parse-p.result c.parse-p.ensures _ c.in-Hold.is in
+    let good = entry_good c.args.line.now c.parse-p.result c.parse-p.ensures _ c.in-Hold.is in
     λ d w.
     rw (c.answer-in-Hold.ensures.0, c.answer-in-Hold.ensures.1)
-    (agrees_same _ _ _ _ (ap (add_line max_len d a.n) is) (c.add_hold-refusal.ensures a.steering.now d good.1 w))
+    (agrees_same _ _ _ _ (ap (add_line max_len d c.args.n) is) (c.add_hold-refusal.ensures c.args.steering.now d good.1 w))
 
 pub returns-in-Write : goal.returns-in-Write
-returns-in-Write c = let at-entry4 = c in
-    let at-parse = at-entry4 in
-    let a = at-parse.args in
-    let is = line_is a.line.now at-parse.parse-p.result at-parse.parse-p.ensures _ at-entry4.in-Write.is in
-    let good = entry_good a.line.now at-parse.parse-p.result at-parse.parse-p.ensures _ at-entry4.in-Write.is in
-    λ d w. agrees_same _ _ _ _ (ap (add_line max_len d a.n) is) (c.add_write.ensures a.bits.now a.known.now a.held.now d good.1 w)
+returns-in-Write c = let is = line_is c.args.line.now c.parse-p.result c.parse-p.ensures _ c.in-Write.is in
+    let good = entry_good c.args.line.now c.parse-p.result c.parse-p.ensures _ c.in-Write.is in
+    λ d w. agrees_same _ _ _ _ (ap (add_line max_len d c.args.n) is) (c.add_write.ensures c.args.bits.now c.args.known.now c.args.held.now d good.1 w)
 
 pub returns-in-Read : goal.returns-in-Read
-returns-in-Read c = let at-entry5 = c in
-    let at-parse = at-entry5 in
-    let a = at-parse.args in
-    let is = line_is a.line.now at-parse.parse-p.result at-parse.parse-p.ensures _ at-entry5.in-Read.is in
-    λ d w. agrees_same _ _ _ _ (ap (add_line max_len d a.n) is) (c.add_read.ensures a.bits.now a.known.now a.held.now d w)
+returns-in-Read c = let is = line_is c.args.line.now c.parse-p.result c.parse-p.ensures _ c.in-Read.is in
+    λ d w. agrees_same _ _ _ _ (ap (add_line max_len d c.args.n) is) (c.add_read.ensures c.args.bits.now c.args.known.now c.args.held.now d w)

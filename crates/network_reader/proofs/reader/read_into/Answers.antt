@@ -2,7 +2,6 @@
 -- and its start end, and otherwise the arrays and counts are of the model's network.
 -- Assumes nothing.
 use native.Mathlib.Omega.{arith}
-use borrow.Author.Rules.{rules}
 use Rattle.model.specs.Limits.{max_len}
 use Rattle.model.specs.Text.{parts, line_end}
 use Rattle.model.specs.NetworkText.{no_lines, read_lines}
@@ -13,16 +12,12 @@ pub returns-then-text-gt-MAX_NETWORK_BYTES : goal.returns-then-text-gt-MAX_NETWO
 returns-then-text-gt-MAX_NETWORK_BYTES c = too_long c.args.text.now (omega (arith, c.if-text-gt-MAX_NETWORK_BYTES.true))
 
 pub read_lines-lines-requires : goal.read_lines-lines-requires
-read_lines-lines-requires c = let at-if1 = c in
-    (omega (arith, at-if1.if-text-gt-MAX_NETWORK_BYTES.false), represents_zero _ _ _ _ at-if1.requires)
+read_lines-lines-requires c = (omega (arith, c.if-text-gt-MAX_NETWORK_BYTES.false), represents_zero _ _ _ _ c.requires)
 
 pub finish-ending-requires : goal.finish-ending-requires
-finish-ending-requires c = let at-read-lines = c in
-    let text = at-read-lines.args.text.now in
-    (read_lines max_len no_lines 1 (parts line_end text), at-read-lines.read_lines-lines.ensures)
+finish-ending-requires c = let text = c.args.text.now in
+    (read_lines max_len no_lines 1 (parts line_end text), c.read_lines-lines.ensures)
 
 pub returns : goal.returns
-returns c = let at-read-lines = c in
-    let at-if1 = at-read-lines in
-    let text = at-if1.args.text.now in
-    ends_read text at-if1.if-text-gt-MAX_NETWORK_BYTES.false _ _ c.finish-ending.result _ _ c.finish-ending.ensures at-read-lines.read_lines-lines.ensures
+returns c = let text = c.args.text.now in
+    ends_read text c.if-text-gt-MAX_NETWORK_BYTES.false _ _ c.finish-ending.result _ _ c.finish-ending.ensures c.read_lines-lines.ensures

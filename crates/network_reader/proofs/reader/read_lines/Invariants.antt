@@ -1,12 +1,10 @@
 -- `network_reader::reader::read_lines` meets its contract. The invariant, before line n, from byte `at` on: the arrays represent the draft of
 -- the lines before, and the model reads from it as from the start (the law `Standing`).
 -- Assumes nothing.
-use Rattle.network_reader.proofs.ReadingLines.{Standing, standing_start, lines_refused, standing_unended, standing_end, standing_refused, standing_next}
+use Rattle.network_reader.proofs.ReadingLines.{Standing}
 use Rattle.network_draft.specs.Represents.{arrays}
-use borrow.Author.Rules.{rules}
-use native.Mathlib.Omega.{arith}
 use lib.ListN.{length}
-use Prim.Native.Nat.{◌+◌, ◌-◌, ◌≤◌, ◌<◌}
+use Prim.Native.Nat.{◌+◌, ◌-◌, ◌≤◌}
 use Rattle.network_reader.proofs.reader.read_lines.Given as goal
 
 abbrev pub invariant-loop-at : goal.invariant-loop-at

@@ -3,7 +3,6 @@
 use Rattle.network_reader.specs.Reads.{no_network}
 use Rattle.network_draft.specs.declared.store.Summary.{Summary}
 use mathlib.Core.Path.{refl, ap}
-use borrow.Author.Rules.{rules}
 use Rattle.network_reader.proofs.reader.rejected.Goals as goal
 
 pub returns : goal.returns

@@ -2,7 +2,6 @@
 -- Assumes nothing.
 use Prim.Native.Nat.{ℕ}
 use lib.ListN.{length-replicate}
-use borrow.Author.Rules.{rules}
 use Rattle.network_reader.proofs.ReadingNetwork.{start_walkable, start_short, start_stops, start_recorded}
 use Rattle.network_reader.proofs.reader.walk_start.Goals as goal
 
@@ -16,5 +15,4 @@ pub returns-in-Stop : goal.returns-in-Stop
 returns-in-Stop c = λ d n b. start_stops b _ _ c.find_path.ensures _ c.in-Stop.is
 
 pub returns-in-Path : goal.returns-in-Path
-returns-in-Path c = let at_length = c in
-    λ d n b. start_recorded b _ _ at_length.find_path.ensures _ _ _ at_length.in-Path.is c.steering_count-count.ensures
+returns-in-Path c = λ d n b. start_recorded b _ _ c.find_path.ensures _ _ _ c.in-Path.is c.steering_count-count.ensures

@@ -1,11 +1,8 @@
 -- `network_reader::start::fill_start` meets its contract.
 -- Assumes nothing.
 use borrow.Author.Rules.{rules}
-use lib.ListN.{length}
-use Rattle.network_draft.specs.Represents.{arrays, Short}
-use Prim.Native.Nat.{◌+◌, ◌-◌, ◌≤◌}
-use mathlib.Core.Path.{◌≡◌, ◌∙◌}
-use Rattle.network_reader.proofs.Starting.{Filling, filling_none, filling_more, filling_all}
+use mathlib.Core.Path.{◌∙◌}
+use Rattle.network_reader.proofs.Starting.{filling_none, filling_more, filling_all}
 use Rattle.network_reader.proofs.start.fill_start.Goals as goal
 
 pub loop-s-init : goal.loop-s-init
@@ -13,7 +10,7 @@ loop-s-init c = (search rules, search rules, search rules, search rules, search 
 
 pub fill_one-requires : goal.fill_one-requires
 fill_one-requires c = let l = c.loop-s in
-    (search rules, l.invariant.5 l.s (search rules) (search rules), l.invariant.6.bits-size ∙ l.invariant.3, l.invariant.6.known-size ∙ l.invariant.4)
+    (search rules, l.invariant.5 l.s (search rules) (search rules), l.invariant.6.bits_size ∙ l.invariant.3, l.invariant.6.known_size ∙ l.invariant.4)
 
 pub loop-s-preserved : goal.loop-s-preserved
 loop-s-preserved c = let i = c.loop-s.invariant in

@@ -1,11 +1,10 @@
 -- `network_reader::start::fill_start` meets its contract.
 -- Assumes nothing.
-use borrow.Author.Rules.{rules}
 use lib.ListN.{length}
 use Rattle.network_draft.specs.Represents.{arrays, Short}
 use Prim.Native.Nat.{◌+◌, ◌-◌, ◌≤◌}
-use mathlib.Core.Path.{◌≡◌, ◌∙◌}
-use Rattle.network_reader.proofs.Starting.{Filling, filling_none, filling_more, filling_all}
+use mathlib.Core.Path.{◌≡◌}
+use Rattle.network_reader.proofs.Starting.{Filling}
 use Rattle.network_reader.proofs.start.fill_start.Given as goal
 
 abbrev pub invariant-loop-s : goal.invariant-loop-s
