@@ -1,9 +1,7 @@
 -- `planner_rows::double` meets its contract. The invariant: the first h are as they were, and c of them stand again behind, with w added.
 -- Assumes nothing.
 use Prim.Native.Nat.{◌-◌}
-use native.Mathlib.Omega.{arith}
-use Rattle.planner_rows.proofs.LandList.{Doubling, doubling_none, doubling_more, doubling_all}
-use borrow.Author.Rules.{rules}
+use Rattle.planner_rows.proofs.LandList.{Doubling}
 use Rattle.planner_rows.proofs.double.Given as goal
 
 abbrev pub invariant-loop-c : goal.invariant-loop-c

@@ -1,7 +1,6 @@
 -- `planner_rows::know_row` meets its contract. The row is known, or it is read.
 -- Assumes nothing.
 use mathlib.Core.Path.{sym, ◌∙◌}
-use borrow.Author.Rules.{rules}
 use Rattle.planner_rows.proofs.know_row.Goals as goal
 
 pub returns-then-number-eq1 : goal.returns-then-number-eq1

@@ -2,7 +2,6 @@
 -- Assumes nothing.
 use mathlib.Core.Path.{refl}
 use Rattle.planner_rows.proofs.KnownRows.{stop_known, path_is, path_known}
-use borrow.Author.Rules.{rules}
 use Rattle.planner_rows.proofs.read_row.Goals as goal
 
 pub walk_setting-requires : goal.walk_setting-requires
@@ -12,8 +11,7 @@ walk_setting-requires c = record {
 }
 
 pub write_stop-requires : goal.write_stop-requires
-write_stop-requires c = let s = c in
-    (s.requires.x_lt_max_settings.1.size, s.requires.x_lt_max_settings.0)
+write_stop-requires c = (c.requires.x_lt_max_settings.1.size, c.requires.x_lt_max_settings.0)
 
 pub write_path-requires : goal.write_path-requires
 write_path-requires c = let p = c.requires in

@@ -1,11 +1,7 @@
 -- `planner_rows::write_order` meets its contract. The invariant: i numbers are written, the last of order first.
 -- Assumes nothing.
-use mathlib.Core.Path.{◌≡◌, ap}
-use Prim.Native.Nat.{ℕ, suc, ◌≤◌, ◌-◌}
-use native.Mathlib.Omega.{arith}
-use lib.ListN.{get_or}
-use Rattle.planner_rows.proofs.RowWriting.{Filling, filling_none, filling_more, last_first, order_written}
-use borrow.Author.Rules.{rules}
+use Prim.Native.Nat.{◌≤◌, ◌-◌}
+use Rattle.planner_rows.proofs.RowWriting.{Filling, last_first}
 use Rattle.planner_rows.proofs.write_order.Given as goal
 
 abbrev pub invariant-loop-i : goal.invariant-loop-i

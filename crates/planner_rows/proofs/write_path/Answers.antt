@@ -6,16 +6,14 @@ use Rattle.planner_settings.proofs.SettingWalk.{planned_listed, planned_steers, 
 use Rattle.planner_settings.proofs.PathMarks.{no_marks, marks_flags}
 use Rattle.planner_theory.proofs.MoveLaws.{path_short}
 use Rattle.planner_rows.proofs.PathRows.{order_small, row_read}
-use borrow.Author.Rules.{rules}
 use Rattle.planner_rows.proofs.write_path.Goals as goal
 
 pub mark_path-requires : goal.mark_path-requires
 mark_path-requires c = ((c.requires.path_read.0, c.requires.path_read.2.holds), no_marks)
 
 pub order_of-m-requires : goal.order_of-m-requires
-order_of-m-requires c = let s = c in
-    let q = s.requires.path_read.2 in
-    record { path = ((s.requires.path_read.0, q.holds), q.prepared.few, refl); steers = planned_steers _ _ _ _ q.prepared }
+order_of-m-requires c = let q = c.requires.path_read.2 in
+    record { path = ((c.requires.path_read.0, q.holds), q.prepared.few, refl); steers = planned_steers _ _ _ _ q.prepared }
 
 pub mask_of_targets-gain-requires : goal.mask_of_targets-gain-requires
 mask_of_targets-gain-requires c = let q = c.requires.path_read.2 in
@@ -30,9 +28,8 @@ overflow_cast-len c = let q = c.requires.path_read.2 in
     omega (arith, path_short _ q.prepared.accepted _ _ q.tells, q.long)
 
 pub write_row-requires : goal.write_row-requires
-write_row-requires c = let s = c in
-    let o = c.order_of-m.ensures in
-    record { rows_len = (s.requires.rows_len.0, s.requires.rows_len.1, o.most); by_index = order_small _ _ _ _ _ o s.requires.path_read.2.prepared }
+write_row-requires c = let o = c.order_of-m.ensures in
+    record { rows_len = (c.requires.rows_len.0, c.requires.rows_len.1, o.most); by_index = order_small _ _ _ _ _ o c.requires.path_read.2.prepared }
 
 pub returns : goal.returns
 returns c =

@@ -2,7 +2,6 @@
 -- Assumes nothing.
 use lib.ListN.{length-set}
 use Rattle.planner_rows.proofs.RowWriting.{row_written}
-use borrow.Author.Rules.{rules}
 use Rattle.planner_rows.proofs.write_row.Goals as goal
 
 pub write_order-requires : goal.write_order-requires
@@ -10,5 +9,4 @@ write_order-requires c = let p = c.requires in
     record { rows_len = (simp length-set p.rows_len.0, p.rows_len.1, p.rows_len.2); by_index = p.by_index }
 
 pub returns : goal.returns
-returns c = let s = c in
-    row_written _ _ s.requires.rows_len.0 s.requires.rows_len.1 _ _ _ _ _ _ _ c.write_order.ensures
+returns c = row_written _ _ c.requires.rows_len.0 c.requires.rows_len.1 _ _ _ _ _ _ _ c.write_order.ensures

@@ -1,6 +1,5 @@
 -- `planner_rows::write_stop` meets its contract: the row has no choices and no target.
 -- Assumes nothing.
-use borrow.Author.Rules.{rules}
 use Rattle.planner_rows.proofs.write_stop.Goals as goal
 
 pub returns : goal.returns
