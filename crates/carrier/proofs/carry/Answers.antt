@@ -1,26 +1,22 @@
 -- `carrier::carry` meets its contract.
 -- Assumes nothing.
-use borrow.Author.Rules.{rules}
 use Rattle.carrier.proofs.Carrying.{not_carried, configured, given}
 use Rattle.carrier.proofs.carry.Goals as goal
 
 pub write_holds-requires : goal.write_holds-requires
-write_holds-requires c = let told = c in
-    let marked = told in
-    let s = marked.args in
-    let e = marked.mark_leaving-marked.ensures in
-    configured s.network.now s.plan.now marked.mark_leaving-marked.result e.0 _ _ told.in-Pass.is e.1
+write_holds-requires c =
+    let a = c.args in
+    let m = c.mark_leaving-marked in
+    configured a.network.now a.plan.now m.result m.ensures.mark_returned _ _ c.in-Pass.is m.ensures.left_after
 
 pub returns-in-Refused : goal.returns-in-Refused
-returns-in-Refused c = let failed = c in
-    let marked = failed in
-    let s = marked.args in
-    not_carried s.network.now s.plan.now marked.mark_leaving-marked.result marked.mark_leaving-marked.ensures.mark_returned _ _ _ failed.in-Refused.is
+returns-in-Refused c =
+    let a = c.args in
+    let m = c.mark_leaving-marked in
+    not_carried a.network.now a.plan.now m.result m.ensures.mark_returned _ _ _ c.in-Refused.is
 
 pub returns-in-Pass : goal.returns-in-Pass
-returns-in-Pass c = let wrote = c in
-    let told = wrote in
-    let marked = told in
-    let s = marked.args in
-    let e = marked.mark_leaving-marked.ensures in
-    given s.network.now s.plan.now marked.mark_leaving-marked.result e.0 _ _ told.in-Pass.is e.1 _ _ _ wrote.write_holds.ensures
+returns-in-Pass c =
+    let a = c.args in
+    let m = c.mark_leaving-marked in
+    given a.network.now a.plan.now m.result m.ensures.mark_returned _ _ c.in-Pass.is m.ensures.left_after _ _ _ c.write_holds.ensures

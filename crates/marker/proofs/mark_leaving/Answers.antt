@@ -30,7 +30,7 @@ returns-in-Refused-form c =
     let a = c.args in
     let is = c.read_network-reading.ensures in
     let form = c.check_form-form.ensures in
-    let e = ap (λ (r : Marked). r.mark) c.unmarked-in-Refused.ensures in
+    let e = ap (λ (r : Marked). r.mark) c.unmarked-in-Refused-form.ensures in
     record {
       mark_returned = record {
         result = ap mark_of e ∙ plan_refused a.network.now a.plan.now _ is c.in-Accepted.is _ form _ c.in-Refused-form.is;
