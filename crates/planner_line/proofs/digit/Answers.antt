@@ -1,6 +1,5 @@
 -- `planner_line::digit` meets its contract.
 -- Assumes nothing.
-use borrow.Author.Rules.{rules}
 use Rattle.planner_line.proofs.Digits.{no_digit}
 use Rattle.planner_line.proofs.digit.Goals as goal
 

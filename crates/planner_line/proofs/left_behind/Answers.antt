@@ -1,6 +1,5 @@
 -- `planner_line::left_behind` meets its contract.
 -- Assumes nothing.
-use borrow.Author.Rules.{rules}
 use Rattle.network_words.specs.Words.{word_bit}
 use Rattle.planner_line.proofs.Digits.{bit_set, bit_clear}
 use Rattle.planner_line.proofs.left_behind.Goals as goal

@@ -2,8 +2,7 @@
 -- Assumes nothing.
 use Prim.Native.Nat.{◌-◌}
 use native.Mathlib.Omega.{arith}
-use borrow.Author.Rules.{rules}
-use Rattle.planner_line.proofs.WantedWords.{Wanting, wanting_none, wanting_more, wanting_all}
+use Rattle.planner_line.proofs.WantedWords.{wanting_none, wanting_more, wanting_all}
 use Rattle.planner_line.proofs.list_wants.Goals as goal
 
 pub loop-i-init : goal.loop-i-init

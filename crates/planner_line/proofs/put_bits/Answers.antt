@@ -1,12 +1,11 @@
 -- `planner_line::put_bits` meets its contract. The loop's invariant: the first b bits are written.
 -- Assumes nothing.
-use mathlib.Core.Path.{◌≡◌, refl}
-use Prim.Native.Nat.{◌+◌, ◌≤◌, ◌-◌}
+use mathlib.Core.Path.{refl}
+use Prim.Native.Nat.{◌+◌}
 use native.Mathlib.Omega.{arith}
 use borrow.Author.Rules.{rules}
-use lib.ListN.{length, length-set}
-use Rattle.planner_line.specs.Line.{KeptFrom}
-use Rattle.planner_line.proofs.PutBits.{SegmentPutting, putting_none, putting_more, kept_more, putting_all}
+use lib.ListN.{length-set}
+use Rattle.planner_line.proofs.PutBits.{putting_none, putting_more, kept_more, putting_all}
 use Rattle.planner_line.proofs.put_bits.Goals as goal
 
 pub loop-b-init : goal.loop-b-init

@@ -1,10 +1,7 @@
 -- `planner_line::put_operation` meets its contract. The loop's invariant: the first i segments are written.
 -- Assumes nothing.
 use Prim.Native.Nat.{◌≤◌, ◌-◌}
-use native.Mathlib.Omega.{arith}
-use borrow.Author.Rules.{rules}
-use Rattle.network_path.proofs.PathLaws.{SegmentOn, segment_on}
-use Rattle.planner_line.proofs.PutOperation.{Putting, operation_none, segment_fits, segment_zeros, operation_more, operation_place, operation_all}
+use Rattle.planner_line.proofs.PutOperation.{Putting}
 use Rattle.planner_line.proofs.put_operation.Given as goal
 
 abbrev pub invariant-loop-i : goal.invariant-loop-i

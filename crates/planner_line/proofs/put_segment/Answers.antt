@@ -1,7 +1,6 @@
 -- `planner_line::put_segment` meets its contract.
 -- Assumes nothing.
 use mathlib.Core.Path.{refl}
-use borrow.Author.Rules.{rules}
 use Rattle.planner_line.proofs.PutBits.{zeros_stay}
 use Rattle.planner_line.proofs.put_segment.Goals as goal
 

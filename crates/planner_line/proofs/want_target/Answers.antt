@@ -1,6 +1,5 @@
 -- `planner_line::want_target` meets its contract.
 -- Assumes nothing.
-use borrow.Author.Rules.{rules}
 use Rattle.planner_line.proofs.WantedWords.{with_read, with_write}
 use Rattle.planner_line.proofs.want_target.Goals as goal
 
