@@ -3,8 +3,7 @@
 use mathlib.Core.Path.{sym, ◌∙◌}
 use Prim.Native.Nat.{◌≤◌}
 use native.Mathlib.Omega.{arith}
-use borrow.Author.Tests.{not-true, not-false, leb-true}
-use borrow.Author.Rules.{rules}
+use borrow.Author.Tests.{leb-true}
 use Rattle.model.proofs.Lists.{true_false}
 use Rattle.clock_line.proofs.Lines.{no_room, not_tested, passed, no_tms, no_tdi, counted}
 use Rattle.clock_line.proofs.count_clocks.Goals as goal

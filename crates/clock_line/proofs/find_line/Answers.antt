@@ -1,7 +1,6 @@
 -- `clock_line::find_line` meets its contract.
 -- Assumes nothing.
 use native.Mathlib.Omega.{arith}
-use borrow.Author.Rules.{rules}
 use Rattle.clock_line.proofs.Ends.{clocks_end}
 use Rattle.clock_line.proofs.Lines.{counted_clocks}
 use Rattle.clock_line.proofs.find_line.Goals as goal

@@ -1,13 +1,11 @@
 -- `clock_writer::run` meets its contract. The loop's invariant: from s on, the clocks from i on lead to the last state.
 -- Assumes nothing.
-use mathlib.Core.Path.{◌≡◌, refl}
+use mathlib.Core.Path.{◌≡◌}
 use mathlib.Core.List.{map}
 use Prim.Native.Nat.{◌-◌, ◌≤◌, ◌<◌}
 use lib.ListN.{length, drop}
-use borrow.Author.Rules.{rules}
 use Rattle.model.specs.Tap.{state_at, state_after}
 use Rattle.clock_writer.specs.Machine.{is_one}
-use Rattle.clock_writer.proofs.Table.{run_end, run_next}
 use Rattle.clock_writer.proofs.run.Given as goal
 
 abbrev pub invariant-loop-i : goal.invariant-loop-i

@@ -2,7 +2,6 @@
 -- Assumes nothing.
 use Rattle.plan_text.proofs.Forms.{form_good, form_refused}
 use Rattle.clock_writer.proofs.Answers.{bad_form, short_tms, short_tdi, all_written}
-use borrow.Author.Rules.{rules}
 use Rattle.clock_writer.proofs.write_clocks.Goals as goal
 
 pub returns-then-tms-n : goal.returns-then-tms-n

@@ -1,10 +1,8 @@
 -- `clock_writer::write_lines` meets its contract. The loop's invariant: the clocks of the lines before `at` are written.
 -- Assumes nothing.
-use mathlib.Core.Path.{◌≡◌, refl}
-use Prim.Native.Nat.{◌+◌, ◌-◌, ◌≤◌}
+use mathlib.Core.Path.{refl}
 use native.Mathlib.Omega.{arith}
-use lib.ListN.{length}
-use Rattle.clock_writer.proofs.Lines.{WrittenTo, written_none, written_within, written_kept, written_all, line_within, written_line}
+use Rattle.clock_writer.proofs.Lines.{written_none, written_kept, written_all, line_within, written_line}
 use Rattle.clock_writer.proofs.write_lines.Goals as goal
 
 pub loop-at-init : goal.loop-at-init

@@ -1,7 +1,6 @@
 -- `clock_writer::write_tdi` meets its contract: three writes, each behind the one before it.
 -- Assumes nothing.
 use native.Mathlib.Omega.{arith}
-use borrow.Author.Rules.{rules}
 use Rattle.model.specs.Text.{bytes}
 use Rattle.plan_text.proofs.Writing.{write_three}
 use Rattle.clock_writer.proofs.write_tdi.Goals as goal

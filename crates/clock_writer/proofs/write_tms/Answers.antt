@@ -5,7 +5,6 @@ use mathlib.Core.List.{List}
 use Prim.Native.Nat.{ℕ, ◌+◌, ◌-◌}
 use native.Mathlib.Omega.{arith}
 use lib.ListN.{length, replicate, length-replicate}
-use borrow.Author.Rules.{rules}
 use Rattle.model.specs.Text.{bytes}
 use Rattle.plan_text.specs.Writing.{write_at}
 use Rattle.plan_text.proofs.Writing.{write_three}
