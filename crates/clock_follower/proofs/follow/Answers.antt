@@ -1,15 +1,10 @@
 -- `clock_follower::follow` meets its contract. The loop's invariant: the counts are within the limits, and those of the clocks from i on
 -- come to the same as those of all clocks.
 -- Assumes nothing.
-use mathlib.Core.Path.{◌≡◌, refl, sym, ap, ◌∙◌}
-use mathlib.Core.List.{map}
-use Prim.Native.Nat.{◌-◌, ◌≤◌, ◌<◌}
+use mathlib.Core.Path.{refl, sym, ap, ◌∙◌}
 use native.Mathlib.Omega.{arith}
-use lib.ListN.{length, drop}
-use borrow.Author.Rules.{rules}
-use Rattle.clock_writer.specs.Machine.{is_one}
-use Rattle.clock_follower.specs.Counts.{progress_for, followed_for, counts_by}
-use Rattle.clock_follower.proofs.Counts.{IsStretch, counts_stop, counts_on, counts_end}
+use Rattle.clock_follower.specs.Counts.{progress_for, followed_for}
+use Rattle.clock_follower.proofs.Counts.{counts_stop, counts_on, counts_end}
 use Rattle.clock_follower.proofs.Stretches.{stretch_small, stretch_of}
 use Rattle.clock_follower.proofs.follow.Goals as goal
 

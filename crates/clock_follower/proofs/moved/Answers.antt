@@ -1,6 +1,5 @@
 -- `clock_follower::moved` meets its contract.
 -- Assumes nothing.
-use borrow.Author.Rules.{rules}
 use Rattle.clock_follower.proofs.moved.Goals as goal
 
 pub returns : goal.returns

@@ -2,12 +2,9 @@
 -- what is counted.
 -- Assumes nothing.
 use mathlib.Core.Path.{sym, ap, ◌∙◌}
-use Prim.Native.Nat.{◌-◌}
 use native.Mathlib.Omega.{arith}
-use lib.ListN.{length}
-use borrow.Author.Rules.{rules}
 use Rattle.clock_follower.specs.Counts.{progress_for, followed_for}
-use Rattle.clock_follower.proofs.Playing.{PlayedTo, played_start, played_end, played_stop, played_fits, played_on}
+use Rattle.clock_follower.proofs.Playing.{played_start, played_end, played_stop, played_fits, played_on}
 use Rattle.clock_follower.proofs.play.Goals as goal
 
 pub loop-i-init : goal.loop-i-init

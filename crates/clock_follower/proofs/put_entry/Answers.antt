@@ -3,7 +3,6 @@
 use mathlib.Core.Path.{ap}
 use native.Mathlib.Omega.{arith}
 use lib.ListN.{length}
-use borrow.Author.Rules.{rules}
 use Rattle.clock_follower.proofs.Stretches.{entry_capture, entry_none, wrote_as, wrote_none}
 use Rattle.clock_follower.proofs.put_entry.Goals as goal
 

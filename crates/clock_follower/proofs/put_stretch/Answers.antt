@@ -1,6 +1,5 @@
 -- `clock_follower::put_stretch` meets its contract.
 -- Assumes nothing.
-use borrow.Author.Rules.{rules}
 use Rattle.clock_follower.proofs.Stretches.{clocks_fit, entry_fits, stretch_put}
 use Rattle.clock_follower.proofs.put_stretch.Goals as goal
 

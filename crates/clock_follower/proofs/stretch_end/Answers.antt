@@ -3,8 +3,6 @@
 use Prim.Native.Nat.{◌≤◌}
 use native.Mathlib.Omega.{arith}
 use lib.ListN.{length, drop, length-drop}
-use borrow.Author.Rules.{rules}
-use borrow.Author.Tests.{not-false}
 use Rattle.text_runs.specs.Runs.{is_zero}
 use Rattle.text_runs.proofs.RunLaws.{run_within}
 use Rattle.clock_follower.proofs.Stretches.{zeros_end}

@@ -1,10 +1,8 @@
 -- `clock_follower::write` meets its contract. The loop's invariant: what the clocks from i on add, written from `at` on, leaves the plan's text
 -- as that of all clocks does, and they lead to the same state.
 -- Assumes nothing.
-use Prim.Native.Nat.{◌-◌}
 use native.Mathlib.Omega.{arith}
-use lib.ListN.{length}
-use Rattle.clock_follower.proofs.Stretches.{WrittenTo, written_start, written_end, stretch_fits, written_on}
+use Rattle.clock_follower.proofs.Stretches.{written_start, written_end, stretch_fits, written_on}
 use Rattle.clock_follower.proofs.write.Goals as goal
 
 pub loop-i-init : goal.loop-i-init

@@ -2,9 +2,8 @@
 -- as that of all clocks does, and they lead to the same state.
 -- Assumes nothing.
 use Prim.Native.Nat.{◌-◌}
-use native.Mathlib.Omega.{arith}
 use lib.ListN.{length}
-use Rattle.clock_follower.proofs.Stretches.{WrittenTo, written_start, written_end, stretch_fits, written_on}
+use Rattle.clock_follower.proofs.Stretches.{WrittenTo}
 use Rattle.clock_follower.proofs.write.Given as goal
 
 abbrev pub invariant-loop-i : goal.invariant-loop-i

@@ -6,12 +6,10 @@ use Rattle.clock_line.proofs.Lines.{counted_clocks}
 use Rattle.clock_line.proofs.find_line.Goals as goal
 
 pub returns-then-text-near-eq10 : goal.returns-then-text-near-eq10
-returns-then-text-near-eq10 c = let n = c in
-    let i = n in
-    let a = i.args in
+returns-then-text-near-eq10 c = let a = c.args in
     record {
-      ends = clocks_end a.text.now a.at _ _ (omega arith) (omega (arith, i.if-guess-text.true)) c.if-text-near-eq10.true (counted_clocks _ _ n.count_clocks-n.ensures c.if-n-ne0.true);
-      counts = n.count_clocks-n.ensures;
+      ends = clocks_end a.text.now a.at _ _ (omega arith) (omega (arith, c.if-guess-text.true)) c.if-text-near-eq10.true (counted_clocks _ _ c.count_clocks-n.ensures c.if-n-ne0.true);
+      counts = c.count_clocks-n.ensures;
     }
 
 pub returns : goal.returns

@@ -19,36 +19,26 @@ pub returns-then-not-can_go_on : goal.returns-then-not-can_go_on
 returns-then-not-can_go_on c = cannot_go_on (progress_for c.args.p) _ (sym c.can_go_on.ensures ∙ c.if-not-can_go_on.true)
 
 pub overflow_add-place : goal.overflow_add-place
-overflow_add-place c = let i = c in
-    omega (arith, (tested (progress_for i.args.p) (sym i.can_go_on.ensures ∙ i.if-not-can_go_on.false)).more_lines)
+overflow_add-place c = omega (arith, (tested (progress_for c.args.p) (sym c.can_go_on.ensures ∙ c.if-not-can_go_on.false)).more_lines)
 
 pub returns-then-clocks-eq0 : goal.returns-then-clocks-eq0
-returns-then-clocks-eq0 c = let i = c in
-    no_clocks (progress_for i.args.p) _ (sym i.can_go_on.ensures ∙ i.if-not-can_go_on.false) (sym c.if-clocks-eq0.true ∙ c.count_clocks-clocks.ensures)
+returns-then-clocks-eq0 c = no_clocks (progress_for c.args.p) _ (sym c.can_go_on.ensures ∙ c.if-not-can_go_on.false) (sym c.if-clocks-eq0.true ∙ c.count_clocks-clocks.ensures)
 
 pub tms_of-requires : goal.tms_of-requires
 tms_of-requires c = (counted_clocks _ _ c.count_clocks-clocks.ensures c.if-clocks-eq0.false).length_is
 
 pub follow-followed-requires : goal.follow-followed-requires
-follow-followed-requires c = let n = c in
-    let i = n in
-    let a = i.args in
-    let t = tested (progress_for a.p) (sym i.can_go_on.ensures ∙ i.if-not-can_go_on.false) in
-    let h = counted_clocks _ _ n.count_clocks-clocks.ensures c.if-clocks-eq0.false in
-    (omega (arith, t.high), t.few, t.short, omega (arith, ap length c.tms_of.ensures, length-take n.count_clocks-clocks.result (drop 4 a.line.now), h.short, h.length_is))
+follow-followed-requires c = let a = c.args in
+    let t = tested (progress_for a.p) (sym c.can_go_on.ensures ∙ c.if-not-can_go_on.false) in
+    let h = counted_clocks _ _ c.count_clocks-clocks.ensures c.if-clocks-eq0.false in
+    (omega (arith, t.high), t.few, t.short, omega (arith, ap length c.tms_of.ensures, length-take c.count_clocks-clocks.result (drop 4 a.line.now), h.short, h.length_is))
 
 pub returns-in-To : goal.returns-in-To
-returns-in-To c = let m = c in
-    let n = m in
-    let i = n in
-    let p = progress_for i.args.p in
-    step_followed p _ (sym i.can_go_on.ensures ∙ i.if-not-can_go_on.false) _ n.count_clocks-clocks.ensures m.if-clocks-eq0.false (some (progress_for c.in-To.q))
-    (sym (ap followed_for c.in-To.is) ∙ c.follow-followed.ensures ∙ ap (λ (l : Bytes). counts_by p (map is_one l)) m.tms_of.ensures)
+returns-in-To c = let p = progress_for c.args.p in
+    step_followed p _ (sym c.can_go_on.ensures ∙ c.if-not-can_go_on.false) _ c.count_clocks-clocks.ensures c.if-clocks-eq0.false (some (progress_for c.in-To.q))
+    (sym (ap followed_for c.in-To.is) ∙ c.follow-followed.ensures ∙ ap (λ (l : Bytes). counts_by p (map is_one l)) c.tms_of.ensures)
 
 pub returns-in-Offends : goal.returns-in-Offends
-returns-in-Offends c = let m = c in
-    let n = m in
-    let i = n in
-    let p = progress_for i.args.p in
-    step_followed p _ (sym i.can_go_on.ensures ∙ i.if-not-can_go_on.false) _ n.count_clocks-clocks.ensures m.if-clocks-eq0.false none
-    (sym (ap followed_for c.in-Offends.is) ∙ c.follow-followed.ensures ∙ ap (λ (l : Bytes). counts_by p (map is_one l)) m.tms_of.ensures)
+returns-in-Offends c = let p = progress_for c.args.p in
+    step_followed p _ (sym c.can_go_on.ensures ∙ c.if-not-can_go_on.false) _ c.count_clocks-clocks.ensures c.if-clocks-eq0.false none
+    (sym (ap followed_for c.in-Offends.is) ∙ c.follow-followed.ensures ∙ ap (λ (l : Bytes). counts_by p (map is_one l)) c.tms_of.ensures)
