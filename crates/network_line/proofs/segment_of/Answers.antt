@@ -1,13 +1,12 @@
 -- `network_line::segment_of` meets its contract, field by field.
 -- Assumes nothing.
-use mathlib.Core.Path.{◌≡◌, sym, ap, ◌∙◌}
+use mathlib.Core.Path.{sym, ap, ◌∙◌}
 use Rattle.model.specs.NetworkText.{kind}
 use Rattle.model.specs.Text.{fields}
 use Rattle.network_line.specs.declared.Kind.TheVariants.{Shadow, Plain, Unknown}
-use Rattle.network_line.specs.declared.Kind.{Kind}
-use Rattle.network_line.specs.Line.{kind_for, SaysSegment}
+use Rattle.network_line.specs.Line.{kind_for}
 use Rattle.network_line.proofs.Lines.{read_as, wrong}
-use Rattle.network_line.proofs.SegLines.{seg_entry, seg_from, seg_len, seg_kind}
+use Rattle.network_line.proofs.SegLines.{seg_from, seg_len, seg_kind}
 use Rattle.network_line.proofs.segment_of.Goals as goal
 
 pub returns-in_default : goal.returns-in_default
@@ -21,33 +20,21 @@ returns-in_default-b c = λ f g. wrong
 
 pub returns-in-Shadow : goal.returns-in-Shadow
 returns-in-Shadow c =
-    let known : (k : Kind) → c.kind_of-k.result ≡ k
-    → SaysSegment (fields c.args.line.now) (seg_entry c.in-Value.from c.in-Value-b.len k) =
-    λ k e. let d = c.number-a.ensures in
-    let p = c.in-Value.is in
-    let f = c.number-b.ensures in
-    let q = c.in-Value-b.is in
-    seg_kind (fields c.args.line.now) _ _ k (read_as d p) (read_as f q) (ap kind_for (sym e) ∙ c.kind_of-k.ensures ∙ ap kind c.field.ensures) (d.small _ p) (f.small _ q) in
-    known Shadow c.in-Shadow.is
+    let from = c.number-a.ensures in
+    let len = c.number-b.ensures in
+    seg_kind (fields c.args.line.now) _ _ Shadow (read_as from c.in-Value.is) (read_as len c.in-Value-b.is) (ap kind_for (sym c.in-Shadow.is) ∙ c.kind_of-k.ensures ∙ ap kind c.field.ensures)
+    (from.small _ c.in-Value.is) (len.small _ c.in-Value-b.is)
 
 pub returns-in-Plain : goal.returns-in-Plain
 returns-in-Plain c =
-    let known : (k : Kind) → c.kind_of-k.result ≡ k
-    → SaysSegment (fields c.args.line.now) (seg_entry c.in-Value.from c.in-Value-b.len k) =
-    λ k e. let d = c.number-a.ensures in
-    let p = c.in-Value.is in
-    let f = c.number-b.ensures in
-    let q = c.in-Value-b.is in
-    seg_kind (fields c.args.line.now) _ _ k (read_as d p) (read_as f q) (ap kind_for (sym e) ∙ c.kind_of-k.ensures ∙ ap kind c.field.ensures) (d.small _ p) (f.small _ q) in
-    known Plain c.in-Plain.is
+    let from = c.number-a.ensures in
+    let len = c.number-b.ensures in
+    seg_kind (fields c.args.line.now) _ _ Plain (read_as from c.in-Value.is) (read_as len c.in-Value-b.is) (ap kind_for (sym c.in-Plain.is) ∙ c.kind_of-k.ensures ∙ ap kind c.field.ensures)
+    (from.small _ c.in-Value.is) (len.small _ c.in-Value-b.is)
 
 pub returns-in-Unknown : goal.returns-in-Unknown
 returns-in-Unknown c =
-    let known : (k : Kind) → c.kind_of-k.result ≡ k
-    → SaysSegment (fields c.args.line.now) (seg_entry c.in-Value.from c.in-Value-b.len k) =
-    λ k e. let d = c.number-a.ensures in
-    let p = c.in-Value.is in
-    let f = c.number-b.ensures in
-    let q = c.in-Value-b.is in
-    seg_kind (fields c.args.line.now) _ _ k (read_as d p) (read_as f q) (ap kind_for (sym e) ∙ c.kind_of-k.ensures ∙ ap kind c.field.ensures) (d.small _ p) (f.small _ q) in
-    known Unknown c.in-Unknown.is
+    let from = c.number-a.ensures in
+    let len = c.number-b.ensures in
+    seg_kind (fields c.args.line.now) _ _ Unknown (read_as from c.in-Value.is) (read_as len c.in-Value-b.is) (ap kind_for (sym c.in-Unknown.is) ∙ c.kind_of-k.ensures ∙ ap kind c.field.ensures)
+    (from.small _ c.in-Value.is) (len.small _ c.in-Value-b.is)

@@ -2,7 +2,7 @@
 -- Assumes nothing.
 use native.Mathlib.Omega.{arith}
 use borrow.Author.Rules.{rules}
-use Rattle.network_path.proofs.PathLaws.{SegmentOn, segment_on, path_end, passed_none, passed_found, passed_more, passed_all}
+use Rattle.network_path.proofs.PathLaws.{segment_on, path_end, passed_none, passed_found, passed_more, passed_all}
 use Rattle.network_path.proofs.places.place_of.Goals as goal
 
 pub loop-i-init : goal.loop-i-init
@@ -16,26 +16,20 @@ bounds-way-i c = omega (arith, c.requires.count)
 
 pub returns-then-k-s : goal.returns-then-k-s
 returns-then-k-s c =
-    let this : SegmentOn c.args.nodes.now c.args.way.now c.args.n c.loop-i.i c.wide-k.result =
-    segment_on _ _ _ c.requires _ _ c.loop-i-test.true c.wide-k.ensures in
+    let this = segment_on _ _ _ c.requires _ _ c.loop-i-test.true c.wide-k.ensures in
     passed_found _ _ _ _ _ _ _ this c.if-k-s.true c.loop-i.invariant.1
 
 pub segment_len-p-requires : goal.segment_len-p-requires
-segment_len-p-requires c =
-    let this : SegmentOn c.args.nodes.now c.args.way.now c.args.n c.loop-i.i c.wide-k.result =
-    segment_on _ _ _ c.requires _ _ c.loop-i-test.true c.wide-k.ensures in
-    omega (arith, this.below)
+segment_len-p-requires c = omega (arith, (segment_on _ _ _ c.requires _ _ c.loop-i-test.true c.wide-k.ensures).below)
 
 pub overflow_add-p : goal.overflow_add-p
 overflow_add-p c =
-    let this : SegmentOn c.args.nodes.now c.args.way.now c.args.n c.loop-i.i c.wide-k.result =
-    segment_on _ _ _ c.requires _ _ c.loop-i-test.true c.wide-k.ensures in
+    let this = segment_on _ _ _ c.requires _ _ c.loop-i-test.true c.wide-k.ensures in
     omega (arith, this.most, c.segment_len-p.ensures, c.requires.count)
 
 pub loop-i-preserved : goal.loop-i-preserved
 loop-i-preserved c =
-    let this : SegmentOn c.args.nodes.now c.args.way.now c.args.n c.loop-i.i c.wide-k.result =
-    segment_on _ _ _ c.requires _ _ c.loop-i-test.true c.wide-k.ensures in
+    let this = segment_on _ _ _ c.requires _ _ c.loop-i-test.true c.wide-k.ensures in
     (search rules, passed_more _ _ _ _ _ _ _ _ this c.if-k-s.false c.segment_len-p.ensures c.loop-i.invariant.1)
 
 pub returns : goal.returns

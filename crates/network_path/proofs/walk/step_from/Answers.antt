@@ -1,91 +1,47 @@
 -- `network_path::walk::step_from` meets its contract.
 -- Assumes nothing.
 use mathlib.Core.Path.{ap}
-use Prim.Native.Nat.{◌<◌, ◌≤◌}
 use native.Mathlib.Omega.{arith}
-use Rattle.network_words.specs.Words.{word_width}
-use Rattle.network_path.specs.Layout.{field_at, node_at, look_in}
-use Rattle.network_path.specs.Answers.{addressed, step_of}
+use Rattle.network_path.specs.Answers.{addressed}
 use Rattle.network_path.proofs.NodeLaws.{safe_mux}
-use Rattle.network_path.proofs.StepLaws.{step_segment, MuxStep, step_mux, step_unknown, step_input, step_beyond}
+use Rattle.network_path.proofs.StepLaws.{step_segment, step_mux, step_unknown, step_input, step_beyond}
 use Rattle.network_path.proofs.walk.step_from.Goals as goal
 
 pub returns-then-kind-lt2 : goal.returns-then-kind-lt2
-returns-then-kind-lt2 c = let a = c.args in
-    step_segment _ a.bits.now a.known.now _ _ c.field-kind.ensures c.if-kind-lt2.true _ c.field.ensures
+returns-then-kind-lt2 c = step_segment _ c.args.bits.now c.args.known.now _ _ c.field-kind.ensures c.if-kind-lt2.true _ c.field.ensures
 
 pub offset_bounds-bits-seg : goal.offset_bounds-bits-seg
-offset_bounds-bits-seg c =
-    let safe : (field_at c.args.nodes.now c.args.at 1 < 129)
-    × (field_at c.args.nodes.now c.args.at 2 < word_width) × (c.field-kind.result ≤ 4) =
-    safe_mux _ _ _ c.field-kind.ensures c.if-kind-lt2.false c.requires.1 in
-    omega (arith, safe.0, c.field-seg.ensures)
+offset_bounds-bits-seg c = omega (arith, (safe_mux _ _ _ c.field-kind.ensures c.if-kind-lt2.false c.requires.1).0, c.field-seg.ensures)
 
 pub bounds-bits-seg : goal.bounds-bits-seg
-bounds-bits-seg c =
-    let safe : (field_at c.args.nodes.now c.args.at 1 < 129)
-    × (field_at c.args.nodes.now c.args.at 2 < word_width) × (c.field-kind.result ≤ 4) =
-    safe_mux _ _ _ c.field-kind.ensures c.if-kind-lt2.false c.requires.1 in
-    omega (arith, safe.0, c.field-seg.ensures)
+bounds-bits-seg c = omega (arith, (safe_mux _ _ _ c.field-kind.ensures c.if-kind-lt2.false c.requires.1).0, c.field-seg.ensures)
 
 pub offset_bounds-known-seg : goal.offset_bounds-known-seg
-offset_bounds-known-seg c =
-    let safe : (field_at c.args.nodes.now c.args.at 1 < 129)
-    × (field_at c.args.nodes.now c.args.at 2 < word_width) × (c.field-kind.result ≤ 4) =
-    safe_mux _ _ _ c.field-kind.ensures c.if-kind-lt2.false c.requires.1 in
-    omega (arith, safe.0, c.field-seg.ensures)
+offset_bounds-known-seg c = omega (arith, (safe_mux _ _ _ c.field-kind.ensures c.if-kind-lt2.false c.requires.1).0, c.field-seg.ensures)
 
 pub bounds-known-seg : goal.bounds-known-seg
-bounds-known-seg c =
-    let safe : (field_at c.args.nodes.now c.args.at 1 < 129)
-    × (field_at c.args.nodes.now c.args.at 2 < word_width) × (c.field-kind.result ≤ 4) =
-    safe_mux _ _ _ c.field-kind.ensures c.if-kind-lt2.false c.requires.1 in
-    omega (arith, safe.0, c.field-seg.ensures)
+bounds-known-seg c = omega (arith, (safe_mux _ _ _ c.field-kind.ensures c.if-kind-lt2.false c.requires.1).0, c.field-seg.ensures)
 
 pub address_of-requires : goal.address_of-requires
-address_of-requires c =
-    let safe : (field_at c.args.nodes.now c.args.at 1 < 129)
-    × (field_at c.args.nodes.now c.args.at 2 < word_width) × (c.field-kind.result ≤ 4) =
-    safe_mux _ _ _ c.field-kind.ensures c.if-kind-lt2.false c.requires.1 in
-    omega (arith, safe.1, c.field-bit.ensures)
+address_of-requires c = omega (arith, (safe_mux _ _ _ c.field-kind.ensures c.if-kind-lt2.false c.requires.1).1, c.field-bit.ensures)
 
 pub overflow_add-i : goal.overflow_add-i
-overflow_add-i c =
-    let safe : (field_at c.args.nodes.now c.args.at 1 < 129)
-    × (field_at c.args.nodes.now c.args.at 2 < word_width) × (c.field-kind.result ≤ 4) =
-    safe_mux _ _ _ c.field-kind.ensures c.if-kind-lt2.false c.requires.1 in
-    omega (arith, safe.2)
+overflow_add-i c = omega (arith, (safe_mux _ _ _ c.field-kind.ensures c.if-kind-lt2.false c.requires.1).2)
 
 pub field-requires-then-i-kind : goal.field-requires-then-i-kind
-field-requires-then-i-kind c =
-    let safe : (field_at c.args.nodes.now c.args.at 1 < 129)
-    × (field_at c.args.nodes.now c.args.at 2 < word_width) × (c.field-kind.result ≤ 4) =
-    safe_mux _ _ _ c.field-kind.ensures c.if-kind-lt2.false c.requires.1 in
-    let s = safe in (omega arith, omega (arith, s.2))
+field-requires-then-i-kind c = (omega arith, omega (arith, (safe_mux _ _ _ c.field-kind.ensures c.if-kind-lt2.false c.requires.1).2))
 
 pub returns-then-i-kind : goal.returns-then-i-kind
 returns-then-i-kind c =
-    let mux : MuxStep c.args.nodes.now c.args.at c.field-kind.result (addressed c.address_of.result) (step_of (look_in c.args.bits.now c.args.known.now) (node_at c.args.nodes.now c.args.at)) =
-    let e = c in
-    let a = e.args in
-    step_mux _ a.bits.now a.known.now _ _ e.field-kind.ensures e.if-kind-lt2.false _ _ c.field-seg.ensures
-    c.field-bit.ensures _ c.address_of.ensures in
+    let mux = step_mux _ c.args.bits.now c.args.known.now _ _ c.field-kind.ensures c.if-kind-lt2.false _ _ c.field-seg.ensures c.field-bit.ensures _ c.address_of.ensures in
     step_input _ _ _ _ _ mux _ _ (ap addressed c.in-Input.is) c.if-i-kind.true c.field-then-i-kind.ensures
 
 pub returns-else-i-kind : goal.returns-else-i-kind
 returns-else-i-kind c =
-    let mux : MuxStep c.args.nodes.now c.args.at c.field-kind.result (addressed c.address_of.result) (step_of (look_in c.args.bits.now c.args.known.now) (node_at c.args.nodes.now c.args.at)) =
-    let e = c in
-    let a = e.args in
-    step_mux _ a.bits.now a.known.now _ _ e.field-kind.ensures e.if-kind-lt2.false _ _ c.field-seg.ensures
-    c.field-bit.ensures _ c.address_of.ensures in
+    let mux = step_mux _ c.args.bits.now c.args.known.now _ _ c.field-kind.ensures c.if-kind-lt2.false _ _ c.field-seg.ensures c.field-bit.ensures _ c.address_of.ensures in
     step_beyond _ _ _ _ _ mux _ (ap addressed c.in-Input.is) c.if-i-kind.false
 
 pub returns-in-Unknown : goal.returns-in-Unknown
 returns-in-Unknown c =
-    let mux : MuxStep c.args.nodes.now c.args.at c.field-kind.result (addressed c.address_of.result) (step_of (look_in c.args.bits.now c.args.known.now) (node_at c.args.nodes.now c.args.at)) =
-    let e = c in
-    let a = e.args in
-    step_mux _ a.bits.now a.known.now _ _ e.field-kind.ensures e.if-kind-lt2.false _ _ c.field-seg.ensures
-    c.field-bit.ensures _ c.address_of.ensures in
+    let mux = step_mux _ c.args.bits.now c.args.known.now _ _ c.field-kind.ensures c.if-kind-lt2.false _ _ c.field-seg.ensures c.field-bit.ensures _ c.address_of.ensures in
     step_unknown _ _ _ _ _ mux (ap addressed c.in-Unknown.is)
