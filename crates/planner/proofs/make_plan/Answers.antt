@@ -8,31 +8,27 @@ use Rattle.planner.proofs.Calling.{network_refused, too_many, too_short, searche
 use Rattle.planner.proofs.make_plan.Goals as goal
 
 pub read_into-filled-requires : goal.read_into-filled-requires
-read_into-filled-requires c = record { nodes-are = refl; bits_are = refl; known-are = refl; steering-are = refl }
+read_into-filled-requires c = record { nodes_are = refl; bits_are = refl; known_are = refl; steering_are = refl }
 
 pub returns-then-count-gt-MAX_STEERING_BITS : goal.returns-then-count-gt-MAX_STEERING_BITS
-returns-then-count-gt-MAX_STEERING_BITS c = let at-ending = c in
-    let r = filled_recorded _ _ _ at-ending.read_into-filled.ensures _ _ at-ending.«ending2».given.1 in
+returns-then-count-gt-MAX_STEERING_BITS c =
+    let r = filled_recorded _ _ _ c.read_into-filled.ensures _ _ c.in-Recorded.is in
     too_many _ _ _ _ r.reads _ r.filled.counted c.if-count-gt-MAX_STEERING_BITS.true
 
 pub returns-then-search-lt-SEARCH_SIZE : goal.returns-then-search-lt-SEARCH_SIZE
-returns-then-search-lt-SEARCH_SIZE c = let at-ending = c in
-    let r = filled_recorded _ _ _ at-ending.read_into-filled.ensures _ _ at-ending.«ending2».given.1 in
+returns-then-search-lt-SEARCH_SIZE c =
+    let r = filled_recorded _ _ _ c.read_into-filled.ensures _ _ c.in-Recorded.is in
     too_short _ _ _ _ r.reads _ r.filled.counted c.if-count-gt-MAX_STEERING_BITS.false c.if-search-lt-SEARCH_SIZE.true
 
 pub plan_network-requires : goal.plan_network-requires
-plan_network-requires c = let at-if2 = c in
-    let at-ending = at-if2 in
-    let r = filled_recorded _ _ _ at-ending.read_into-filled.ensures _ _ at-ending.«ending2».given.1 in
-    record { count = _; len = _; filled = r.filled; accepted = r.net; few = at-if2.if-count-gt-MAX_STEERING_BITS.false; enough = at-if2.if-search-lt-SEARCH_SIZE.false }
+plan_network-requires c =
+    let r = filled_recorded _ _ _ c.read_into-filled.ensures _ _ c.in-Recorded.is in
+    record { count = _; len = _; filled = r.filled; accepted = r.net; few = c.if-count-gt-MAX_STEERING_BITS.false; enough = c.if-search-lt-SEARCH_SIZE.false }
 
 pub returns-in-Refused : goal.returns-in-Refused
-returns-in-Refused c = let at-ending = c in
-    network_refused _ _ _ _ _ (ends_refused _ _ _ at-ending.read_into-filled.ensures _ _ at-ending.in-Refused.is)
+returns-in-Refused c = network_refused _ _ _ _ _ (ends_refused _ _ _ c.read_into-filled.ensures _ _ c.in-Refused.is)
 
 pub returns-else-search-lt-SEARCH_SIZE : goal.returns-else-search-lt-SEARCH_SIZE
-returns-else-search-lt-SEARCH_SIZE c = let at-plan-network = c in
-    let at-if2 = at-plan-network in
-    let at-ending = at-if2 in
-    let r = filled_recorded _ _ _ at-ending.read_into-filled.ensures _ _ at-ending.«ending2».given.1 in
-    searched _ _ _ _ r.reads _ r.filled.counted at-if2.if-count-gt-MAX_STEERING_BITS.false _ _ _ _ refl at-if2.if-search-lt-SEARCH_SIZE.false at-plan-network.plan_network.ensures
+returns-else-search-lt-SEARCH_SIZE c =
+    let r = filled_recorded _ _ _ c.read_into-filled.ensures _ _ c.in-Recorded.is in
+    searched _ _ _ _ r.reads _ r.filled.counted c.if-count-gt-MAX_STEERING_BITS.false _ _ _ _ refl c.if-search-lt-SEARCH_SIZE.false c.plan_network.ensures
