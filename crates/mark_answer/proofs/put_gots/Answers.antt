@@ -1,15 +1,10 @@
 -- `mark_answer::put_gots` meets its contract. The loop's invariant: the lines of the first i rows are written.
 -- Assumes nothing.
-use mathlib.Core.Path.{◌≡◌, refl}
-use Prim.Native.Nat.{◌+◌, ◌*◌, ◌-◌, ◌≤◌}
+use mathlib.Core.Path.{refl}
 use native.Mathlib.Omega.{arith}
-use lib.ListN.{length}
 use borrow.Author.Rules.{rules}
 use Rattle.model.specs.Printed.{got_lines}
-use Rattle.model.specs.Network.{tabulate}
-use Rattle.program_lines.specs.Puts.{Puts}
 use Rattle.program_lines.proofs.Parts.{puts_none}
-use Rattle.marker_targets.specs.Answers.{got_row}
 use Rattle.mark_answer.proofs.MarkShown.{got_next, gots_done}
 use Rattle.mark_answer.proofs.put_gots.Goals as goal
 
@@ -18,14 +13,21 @@ unfolding got_lines
 loop-i-init c = (search rules, refl, search rules, puts_none _ _)
 
 pub put_got-next-requires : goal.put_got-next-requires
-put_got-next-requires c = let v = c.loop-i.invariant in
+put_got-next-requires c =
+    let v = c.loop-i.invariant in
     omega (arith, v.1, v.2, c.requires)
 
 pub loop-i-preserved : goal.loop-i-preserved
-loop-i-preserved c = let v = c.loop-i.invariant in
-    let f = c.put_got-next in
-    (omega arith, omega (arith, f.auto.0, v.1), omega (arith, v.2, f.ensures.1), got_next _ c.args.gots c.loop-i.i _ v.3 (omega (arith, v.0, v.2, c.requires)) f.ensures.0)
+loop-i-preserved c =
+    let v = c.loop-i.invariant in
+    let put = c.put_got-next in (
+      omega arith,
+      omega (arith, put.auto.out, v.1),
+      omega (arith, v.2, put.ensures.upper_bound),
+      got_next _ c.args.gots c.loop-i.i _ v.3 (omega (arith, v.0, v.2, c.requires)) put.ensures.puts,
+    )
 
 pub returns : goal.returns
-returns c = let v = c.loop-i.invariant in
+returns c =
+    let v = c.loop-i.invariant in
     gots_done _ c.args.gots c.loop-i.i _ v.0 (omega arith) v.3

@@ -1,16 +1,12 @@
 -- `mark_answer::put_gots` meets its contract. The loop's invariant: the lines of the first i rows are written.
 -- Assumes nothing.
-use mathlib.Core.Path.{◌≡◌, refl}
+use mathlib.Core.Path.{◌≡◌}
 use Prim.Native.Nat.{◌+◌, ◌*◌, ◌-◌, ◌≤◌}
-use native.Mathlib.Omega.{arith}
 use lib.ListN.{length}
-use borrow.Author.Rules.{rules}
 use Rattle.model.specs.Printed.{got_lines}
 use Rattle.model.specs.Network.{tabulate}
 use Rattle.program_lines.specs.Puts.{Puts}
-use Rattle.program_lines.proofs.Parts.{puts_none}
 use Rattle.marker_targets.specs.Answers.{got_row}
-use Rattle.mark_answer.proofs.MarkShown.{got_next, gots_done}
 use Rattle.mark_answer.proofs.put_gots.Given as goal
 
 abbrev pub invariant-loop-i : goal.invariant-loop-i
