@@ -1,6 +1,5 @@
 -- `network_words::bit_at` meets its contract.
 -- Assumes nothing.
-use borrow.Author.Rules.{rules}
 use Rattle.network_words.proofs.WordLaws.{bit_mask}
 use Rattle.network_words.proofs.bit_at.Goals as goal
 

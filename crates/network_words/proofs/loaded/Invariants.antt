@@ -1,14 +1,9 @@
 -- `network_words::loaded` meets its contract. The loop's invariant: the first i bits stand at the top of the word.
 -- Assumes nothing.
 use mathlib.Core.List.{map}
-use mathlib.Core.Path.{◌≡◌, subst}
-use Prim.Native.Nat.{ℕ, ◌≤◌, ◌<◌, ◌-◌, ◌^◌}
-use native.Mathlib.Omega.{arith}
-use borrow.Author.Rules.{rules}
-use lib.ListN.{get_or, length-map}
-use lib.Pow.{pow_pos}
+use Prim.Native.Nat.{◌≤◌, ◌<◌, ◌-◌, ◌^◌}
 use Rattle.network_words.specs.Words.{byte_bit}
-use Rattle.network_words.proofs.WordLaws.{value_small, Shifted, shifted_none, shifted_byte, shifted_all}
+use Rattle.network_words.proofs.WordLaws.{Shifted}
 use Rattle.network_words.proofs.loaded.Given as goal
 
 abbrev pub invariant-loop-i : goal.invariant-loop-i

@@ -1,6 +1,5 @@
 -- `network_words::only_bit` meets its contract.
 -- Assumes nothing.
-use borrow.Author.Rules.{rules}
 use Rattle.network_words.specs.Words.{word_width}
 use Rattle.network_words.proofs.WordLaws.{only_place}
 use Rattle.network_words.proofs.only_bit.Goals as goal

@@ -1,6 +1,5 @@
 -- `network_words::pair_at` meets its contract.
 -- Assumes nothing.
-use borrow.Author.Rules.{rules}
 use Rattle.network_words.proofs.WordLaws.{pair_mask}
 use Rattle.network_words.proofs.pair_at.Goals as goal
 

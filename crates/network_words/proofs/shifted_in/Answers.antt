@@ -1,6 +1,5 @@
 -- `network_words::shifted_in` meets its contract.
 -- Assumes nothing.
-use borrow.Author.Rules.{rules}
 use Rattle.network_words.specs.Words.{word_width}
 use Rattle.network_words.proofs.WordLaws.{top_placed}
 use Rattle.network_words.proofs.shifted_in.Goals as goal

@@ -1,12 +1,9 @@
 -- `network_words::words_of` meets its contract. The loop's invariant: both words have the first i bytes, and the rest gives the whole.
 -- Assumes nothing.
 use Prim.Native.Nat.{◌≤◌, ◌-◌}
-use native.Mathlib.Omega.{arith}
-use borrow.Author.Rules.{rules}
-use lib.ListN.{length, get_or}
-use Rattle.network_words.specs.Words.{word_width, byte_bit, byte_known}
-use Rattle.network_words.proofs.WordLaws.{value_small}
-use Rattle.network_words.proofs.FieldLaws.{Reads, reads_none, reads_more, reads_all, reads_small}
+use lib.ListN.{length}
+use Rattle.network_words.specs.Words.{byte_bit, byte_known}
+use Rattle.network_words.proofs.FieldLaws.{Reads}
 use Rattle.network_words.proofs.words_of.Given as goal
 
 abbrev pub invariant-loop-i : goal.invariant-loop-i

@@ -2,7 +2,6 @@
 -- Assumes nothing.
 use mathlib.Core.Path.{ap, ◌∙◌}
 use Prim.Native.Nat.{ℕ, ◌+◌}
-use borrow.Author.Rules.{rules}
 use Rattle.plan_text.proofs.Bits.{run_is}
 use Rattle.plan_text.proofs.bits_end.Goals as goal
 

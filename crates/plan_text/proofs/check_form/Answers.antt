@@ -1,12 +1,10 @@
 -- `plan_text::check_form` meets its contract. The loop's invariant: n lines have good form, and the rest, from `at` on, decides.
 -- Assumes nothing.
 use mathlib.Core.Path.{sym, ap, ◌∙◌}
-use Prim.Native.Nat.{◌-◌, ◌≤◌}
 use native.Mathlib.Omega.{arith}
-use lib.ListN.{length}
 use borrow.Author.Rules.{rules}
 use Rattle.plan_text.specs.Lines.{line_for}
-use Rattle.plan_text.proofs.Forms.{Decides, form_long, form_start, form_end, form_late, form_bad, Onward, form_next}
+use Rattle.plan_text.proofs.Forms.{form_long, form_start, form_end, form_late, form_bad, Onward, form_next}
 use Rattle.plan_text.proofs.check_form.Goals as goal
 
 pub returns-then-plan-gt-MAX_PLAN_BYTES : goal.returns-then-plan-gt-MAX_PLAN_BYTES
@@ -27,7 +25,7 @@ pub loop-at-smaller : goal.loop-at-smaller
 loop-at-smaller c =
     let goes_on : Onward c.args.plan.now c.loop-at.n
     c.loop-at.at c.loop-at.invariant.2 c.in-Next.next =
-        form_next _ _ _ _ _ (omega (arith, c.if-n-eq-MAX_OPERATIONS.false))
+    form_next _ _ _ _ _ (omega (arith, c.if-n-eq-MAX_OPERATIONS.false))
     (sym (ap line_for c.in-Next.is) ∙ c.line_at-line.ensures) in
     let o = goes_on in
     omega (arith, o.within, o.further)
@@ -36,7 +34,7 @@ pub loop-at-preserved : goal.loop-at-preserved
 loop-at-preserved c =
     let goes_on : Onward c.args.plan.now c.loop-at.n
     c.loop-at.at c.loop-at.invariant.2 c.in-Next.next =
-        form_next _ _ _ _ _ (omega (arith, c.if-n-eq-MAX_OPERATIONS.false))
+    form_next _ _ _ _ _ (omega (arith, c.if-n-eq-MAX_OPERATIONS.false))
     (sym (ap line_for c.in-Next.is) ∙ c.line_at-line.ensures) in
     let o = goes_on in
     (o.within, omega (arith, c.if-n-eq-MAX_OPERATIONS.false), o.decides)

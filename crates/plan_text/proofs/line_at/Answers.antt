@@ -29,4 +29,3 @@ returns-then-plan-end-ne10 c = let k = c in
 pub returns : goal.returns
 returns c = let k = c in
     next_good _ _ _ refl _ k.equal.ensures (not-false _ k.if-not-equal.false-raw) _ k.bits_end-end.ensures c.if-plan-end-ne10.false
-

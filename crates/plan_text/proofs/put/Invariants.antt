@@ -1,11 +1,9 @@
 -- `plan_text::put` meets its contract. The loop's invariant: the first i bytes are written.
 -- Assumes nothing.
-use mathlib.Core.Path.{◌≡◌, refl, sym}
+use mathlib.Core.Path.{◌≡◌}
 use Prim.Native.Nat.{◌-◌, ◌≤◌}
-use lib.ListN.{length, take, length-set}
-use borrow.Author.Rules.{rules}
+use lib.ListN.{length, take}
 use Rattle.plan_text.specs.Writing.{write_at}
-use Rattle.plan_text.proofs.Writing.{write_none, put_next, put_done}
 use Rattle.plan_text.proofs.put.Given as goal
 
 abbrev pub invariant-loop-i : goal.invariant-loop-i

@@ -1,10 +1,8 @@
 -- `plan_text::put_repeated` meets its contract. The loop's invariant: the first i bytes are written.
 -- Assumes nothing.
-use mathlib.Core.Path.{◌≡◌, refl, sym}
-use Prim.Native.Nat.{◌-◌, ◌≤◌}
-use lib.ListN.{length, replicate, length-set}
+use mathlib.Core.Path.{refl, sym}
+use lib.ListN.{length-set}
 use borrow.Author.Rules.{rules}
-use Rattle.plan_text.specs.Writing.{write_at}
 use Rattle.plan_text.proofs.Writing.{write_none, fill_next, fill_done}
 use Rattle.plan_text.proofs.put_repeated.Goals as goal
 

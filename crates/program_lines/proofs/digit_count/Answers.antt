@@ -1,6 +1,5 @@
 -- `program_lines::digit_count` meets its contract.
 -- Assumes nothing.
-use borrow.Author.Rules.{rules}
 use Rattle.program_lines.proofs.Digits.{count_is}
 use Rattle.program_lines.proofs.digit_count.Goals as goal
 

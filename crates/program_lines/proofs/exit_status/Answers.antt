@@ -3,7 +3,6 @@
 use mathlib.Core.Path.{sym, ◌∙◌}
 use mathlib.Core.Bool.{true, false}
 use lib.Seq.{length-take-le}
-use borrow.Author.Rules.{rules}
 use Rattle.program_lines.proofs.Status.{status_short, status_by}
 use Rattle.program_lines.proofs.exit_status.Goals as goal
 

@@ -3,7 +3,7 @@
 use native.Mathlib.Omega.{arith}
 use lib.ListN.{length-set}
 use borrow.Author.Rules.{rules}
-use Rattle.program_lines.proofs.Digits.{Filled, fill_start, fill_next, fill_last}
+use Rattle.program_lines.proofs.Digits.{fill_start, fill_next, fill_last}
 use Rattle.program_lines.proofs.fill_digits.Goals as goal
 
 pub loop-left-init : goal.loop-left-init

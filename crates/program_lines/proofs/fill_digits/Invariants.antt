@@ -1,9 +1,6 @@
 -- `program_lines::fill_digits` meets its contract. The loop's invariant: the digits but for those of `left` stand from place i on.
 -- Assumes nothing.
-use native.Mathlib.Omega.{arith}
-use lib.ListN.{length-set}
-use borrow.Author.Rules.{rules}
-use Rattle.program_lines.proofs.Digits.{Filled, fill_start, fill_next, fill_last}
+use Rattle.program_lines.proofs.Digits.{Filled}
 use Rattle.program_lines.proofs.fill_digits.Given as goal
 
 abbrev pub invariant-loop-left : goal.invariant-loop-left

@@ -1,11 +1,9 @@
 -- `program_lines::put_fields` meets its contract. The loop's invariant: the first i fields are written.
 -- Assumes nothing.
-use mathlib.Core.Path.{◌≡◌, refl}
-use Prim.Native.Nat.{◌+◌, ◌*◌, ◌-◌, ◌≤◌}
+use mathlib.Core.Path.{refl}
 use native.Mathlib.Omega.{arith}
-use lib.ListN.{length, take}
 use borrow.Author.Rules.{rules}
-use Rattle.program_lines.specs.Puts.{Puts, tabbed}
+use Rattle.program_lines.specs.Puts.{tabbed}
 use Rattle.program_lines.proofs.Parts.{puts_none, field_next, fields_done}
 use Rattle.program_lines.proofs.put_fields.Goals as goal
 

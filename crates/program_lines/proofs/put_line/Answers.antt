@@ -1,7 +1,6 @@
 -- `program_lines::put_line` meets its contract: the word, the fields and the line's end, each behind the one before it.
 -- Assumes nothing.
 use native.Mathlib.Omega.{arith}
-use borrow.Author.Rules.{rules}
 use Rattle.program_lines.proofs.Parts.{puts_line}
 use Rattle.program_lines.proofs.put_line.Goals as goal
 

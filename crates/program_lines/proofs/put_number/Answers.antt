@@ -5,7 +5,6 @@ use mathlib.Core.List.{List}
 use Prim.Native.Nat.{ℕ}
 use native.Mathlib.Omega.{arith}
 use lib.ListN.{length}
-use borrow.Author.Rules.{rules}
 use Rattle.plan_text.specs.Writing.{write_at}
 use Rattle.program_lines.proofs.Digits.{part_is, few_digits}
 use Rattle.program_lines.proofs.put_number.Goals as goal
