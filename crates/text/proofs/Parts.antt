@@ -51,7 +51,7 @@ parts_alone sep (b ∷ t) h = go (eqb b sep) refl (parts_alone sep t)
     go true e ih = let q = before_hit sep b t e in absurd (omega arith)
     go false e ih = let q = before_miss sep b t e in rw (parts_miss sep b t e, ih (omega arith))
 
--- a separator: the part bytesBefore it, and the parts behind it
+-- a separator: the part before it, and the parts behind it
 abbrev pub Ended : ℕ → Bytes → Type 0
 Ended sep t = (get_or t (bytes_before sep t) 0 ≡ sep) × (parts sep t ≡ take (bytes_before sep t) t ∷ parts sep (drop (suc (bytes_before sep t)) t))
 
@@ -106,7 +106,7 @@ module _ (sep : ℕ) (t : Bytes) (at end : ℕ) (e : IsEnd sep t at end) where
   pub rest_alone : end ≡ length t → parts sep (drop at t) ≡ drop at t ∷ []
   rest_alone h = parts_alone sep (drop at t) (omega (arith, length-drop at t))
 
-  -- a separator: the part bytesBefore it, and the parts behind it
+  -- a separator: the part before it, and the parts behind it
   pub rest_ended : end < length t → parts sep (drop at t) ≡ take (end - at) (drop at t) ∷ parts sep (drop (end + 1) t)
   rest_ended h =
       let n : end - at ≡ bytes_before sep (drop at t) = omega arith in

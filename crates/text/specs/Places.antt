@@ -4,7 +4,7 @@ use Rattle.std.specs.Prelude.{◌≡◌, List, [], ℕ, ◌+◌, ◌-◌, ◌≤
 use Rattle.model.specs.Text.{Bytes, parts, fields}
 use Rattle.text.specs.declared.Fields.{Fields}
 
--- the count of bytes bytesBefore the first separator, or of all bytes where there is none
+-- the count of bytes before the first separator, or of all bytes where there is none
 unfoldable pub bytes_before : ℕ → Bytes → ℕ
 bytes_before sep t = length (get_or (parts sep t) 0 [])
 
@@ -13,7 +13,7 @@ pub record IsEnd (sep : ℕ) (t : Bytes) (at end : ℕ) : Type 0 where
   pub found : end ≡ at + bytes_before sep (drop at t)
   pub within : end ≤ length t
 
--- field k of a line lies from its start to one bytesBefore the next field's start
+-- field k of a line lies from its start to one before the next field's start
 pub record FieldAt (line : Bytes) (starts : List ℕ) (k : ℕ) : Type 0 where
   pub ordered : get_or starts k 0 < get_or starts (k + 1) 0
   pub within : get_or starts (k + 1) 0 ≤ length line + 1
