@@ -2,7 +2,6 @@
 -- Assumes nothing.
 use mathlib.Core.Path.{refl}
 use native.Mathlib.Omega.{arith}
-use borrow.Author.Rules.{rules}
 use Rattle.model.proofs.PlanTexts.{text_of}
 use Rattle.plan_text.proofs.Forms.{form_good, form_refused}
 use Rattle.clock_answer.proofs.ClocksShown.{clocks_refused}

@@ -1,6 +1,5 @@
 -- `clock_answer::put_operation` meets its contract: the parts of the line, each behind the one before it.
 -- Assumes nothing.
-use borrow.Author.Rules.{rules}
 use Rattle.clock_answer.proofs.ClocksShown.{puts_operation}
 use Rattle.clock_answer.proofs.put_operation.Goals as goal
 

@@ -1,10 +1,8 @@
 -- `clock_answer::put_operations` meets its contract. The loop's invariant: the lines of the operations before `at` are written.
 -- Assumes nothing.
 use mathlib.Core.Path.{refl}
-use Prim.Native.Nat.{◌+◌, ◌-◌, ◌≤◌}
 use native.Mathlib.Omega.{arith}
-use lib.ListN.{length}
-use Rattle.clock_answer.proofs.ClocksShown.{Clocked, clocked_none, clocked_all, line_within, line_fits, clocked_line}
+use Rattle.clock_answer.proofs.ClocksShown.{clocked_none, clocked_all, line_within, line_fits, clocked_line}
 use Rattle.clock_answer.proofs.put_operations.Goals as goal
 
 pub loop-at-init : goal.loop-at-init

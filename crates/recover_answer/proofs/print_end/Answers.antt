@@ -2,7 +2,6 @@
 -- Assumes nothing.
 use mathlib.Core.Path.{sym, ap, ◌∙◌}
 use native.Mathlib.Omega.{arith}
-use borrow.Author.Rules.{rules}
 use Rattle.recover_answer.proofs.RecoveryShown.{shown_end_refused, shown_plan, plan_fits, stands}
 use Rattle.program_text.proofs.Front.{at_front, printed_to}
 use Rattle.recover_line.specs.Answers.{end_answer}

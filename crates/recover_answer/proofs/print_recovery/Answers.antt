@@ -1,7 +1,6 @@
 -- `recover_answer::print_recovery` meets its contract.
 -- Assumes nothing.
 use mathlib.Core.Path.{ap, ◌∙◌}
-use borrow.Author.Rules.{rules}
 use Rattle.model.specs.Result.{Result}
 use Rattle.recover_model.specs.RecoverCalls.{Progress}
 use Rattle.program_text.proofs.Front.{at_front, printed_to}

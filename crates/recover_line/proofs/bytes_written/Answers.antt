@@ -1,7 +1,6 @@
 -- `recover_line::bytes_written` meets its contract.
 -- Assumes nothing.
 use mathlib.Core.Path.{sym, ◌∙◌}
-use borrow.Author.Rules.{rules}
 use Rattle.clock_follower.specs.Counts.{progress_for}
 use Rattle.recover_line.proofs.GoingOn.{less_end, all_written}
 use Rattle.recover_line.proofs.bytes_written.Goals as goal

@@ -4,7 +4,6 @@ use mathlib.Core.Bool.{not}
 use mathlib.Core.Path.{sym, ap, ◌∙◌}
 use native.Mathlib.Omega.{arith}
 use borrow.Author.Tests.{eq-eqb, ne_eqb}
-use borrow.Author.Rules.{rules}
 use Rattle.recover_model.specs.RecoverCalls.{under_way}
 use Rattle.clock_follower.specs.Counts.{progress_for}
 use Rattle.recover_line.proofs.GoingOn.{cannot, first_tests, some_bytes, no_bytes}

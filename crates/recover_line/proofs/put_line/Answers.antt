@@ -1,7 +1,6 @@
 -- `recover_line::put_line` meets its contract.
 -- Assumes nothing.
 use native.Mathlib.Omega.{arith}
-use borrow.Author.Rules.{rules}
 use Rattle.recover_line.proofs.PutLine.{its_clocks, put_ready, put_done}
 use Rattle.recover_line.proofs.put_line.Goals as goal
 

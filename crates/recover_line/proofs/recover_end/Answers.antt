@@ -2,8 +2,6 @@
 -- Assumes nothing.
 use mathlib.Core.Path.{sym, ◌∙◌}
 use native.Mathlib.Omega.{arith}
-use borrow.Author.Tests.{not-true, not-false}
-use borrow.Author.Rules.{rules}
 use Rattle.recover_model.proofs.GoesOn.{tested}
 use Rattle.clock_follower.specs.Counts.{progress_for}
 use Rattle.recover_line.proofs.TextEnd.{end_cannot, end_unended, end_outside, end_at_rest}

@@ -2,7 +2,6 @@
 -- Assumes nothing.
 use mathlib.Core.Path.{sym, ap, ◌∙◌}
 use native.Mathlib.Omega.{arith}
-use borrow.Author.Rules.{rules}
 use Rattle.clock_follower.specs.Counts.{progress_for}
 use Rattle.recover_line.specs.Answers.{stepped}
 use Rattle.recover_line.proofs.OneLine.{call_refused, counted_before, counted_after, call_short, call_room, call_written, call_unwritten}

@@ -5,8 +5,6 @@ use mathlib.Core.List.{map}
 use mathlib.Core.Path.{sym, ◌∙◌, ap}
 use native.Mathlib.Omega.{arith}
 use lib.ListN.{length, length-take, drop}
-use borrow.Author.Tests.{not-true, not-false}
-use borrow.Author.Rules.{rules}
 use Rattle.model.specs.Text.{Bytes}
 use Rattle.recover_model.proofs.GoesOn.{tested}
 use Rattle.plan_text.specs.Writing.{write_at}

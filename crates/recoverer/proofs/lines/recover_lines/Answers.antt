@@ -1,13 +1,10 @@
 -- `recoverer::lines::recover_lines` meets its contract.
 -- Assumes nothing.
 use mathlib.Core.Path.{ap}
-use Prim.Native.Nat.{◌-◌}
 use native.Mathlib.Omega.{arith}
-use lib.ListN.{length}
-use borrow.Author.Rules.{rules}
 use Rattle.clock_follower.specs.Counts.{progress_for}
 use Rattle.recover_line.specs.Answers.{stepped}
-use Rattle.recoverer.proofs.PartLines.{Doing, doing_start, done_at_end, done_unended, done_refused, doing_next}
+use Rattle.recoverer.proofs.PartLines.{doing_start, done_at_end, done_unended, done_refused, doing_next}
 use Rattle.recoverer.proofs.lines.recover_lines.Goals as goal
 
 pub loop-at-init : goal.loop-at-init

@@ -1,11 +1,8 @@
 -- `recoverer::part::move_to_front` meets its contract.
 -- Assumes nothing.
-use mathlib.Core.Path.{refl, ◌≡◌, sym}
-use Prim.Native.Nat.{◌-◌, ◌≤◌}
+use mathlib.Core.Path.{refl, sym}
 use native.Mathlib.Omega.{arith}
-use lib.ListN.{take, drop}
 use borrow.Author.Rules.{rules}
-use Rattle.model.specs.Calls.{write_over}
 use Rattle.plan_text.proofs.Writing.{over_none}
 use Rattle.recoverer.proofs.PartRest.{moved_length, moved_next, moved_all}
 use Rattle.recoverer.proofs.part.move_to_front.Goals as goal

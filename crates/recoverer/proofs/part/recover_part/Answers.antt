@@ -1,7 +1,6 @@
 -- `recoverer::part::recover_part` meets its contract.
 -- Assumes nothing.
 use mathlib.Core.Path.{ap}
-use borrow.Author.Rules.{rules}
 use Rattle.clock_follower.specs.Counts.{progress_for}
 use Rattle.recover_line.specs.Answers.{stepped}
 use Rattle.recoverer.proofs.OnePart.{part_refused, from_answer, part_stopped, part_held}

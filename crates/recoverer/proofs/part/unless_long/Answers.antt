@@ -1,7 +1,6 @@
 -- `recoverer::part::unless_long` meets its contract.
 -- Assumes nothing.
 use mathlib.Core.Path.{sym, ap, ◌∙◌}
-use borrow.Author.Rules.{rules}
 use Rattle.model.specs.Result.{Result}
 use Rattle.recover_model.specs.RecoverCalls.{Progress}
 use Rattle.clock_follower.specs.Counts.{progress_for}

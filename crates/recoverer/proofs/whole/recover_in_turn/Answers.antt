@@ -2,7 +2,6 @@
 -- Assumes nothing.
 use mathlib.Core.Path.{ap}
 use native.Mathlib.Omega.{arith}
-use borrow.Author.Rules.{rules}
 use Rattle.recover_line.specs.Answers.{stepped}
 use Rattle.recoverer.proofs.WholeCall.{stands_end, stands_refused}
 use Rattle.recoverer.proofs.whole.recover_in_turn.Goals as goal
