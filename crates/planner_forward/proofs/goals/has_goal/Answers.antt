@@ -2,12 +2,10 @@
 -- Assumes nothing.
 use mathlib.Core.Path.{◌≡◌, sym, ◌∙◌}
 use mathlib.Core.Bool.{false}
-use Prim.Native.Nat.{ℕ, ◌+◌, ◌*◌, ◌-◌, ◌≤◌, ◌<◌}
+use Prim.Native.Nat.{ℕ, ◌+◌, ◌*◌, ◌<◌}
 use native.Mathlib.Omega.{arith}
 use borrow.Author.Count.{below_more}
 use lib.ListN.{get_or}
-use Rattle.planner_rows.specs.Rows.{RowsRight}
-use Rattle.planner_settings.specs.Route.{Each}
 use Rattle.planner_forward.specs.Goals.{goal_with}
 use Rattle.planner_settings.proofs.SettingWalk.{settings_count}
 use Rattle.planner_forward.proofs.GoalLaws.{goal_skip, goal_there, goal_nowhere}

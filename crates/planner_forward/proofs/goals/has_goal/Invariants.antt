@@ -1,16 +1,12 @@
 -- `planner_forward::goals::has_goal` meets its contract. The loop's invariant: no setting below x is a goal with one of its sets.
 -- Assumes nothing.
-use mathlib.Core.Path.{◌≡◌, sym, ◌∙◌}
+use mathlib.Core.Path.{◌≡◌}
 use mathlib.Core.Bool.{false}
 use Prim.Native.Nat.{ℕ, ◌+◌, ◌*◌, ◌-◌, ◌≤◌, ◌<◌}
-use native.Mathlib.Omega.{arith}
-use borrow.Author.Count.{below_more}
 use lib.ListN.{get_or}
 use Rattle.planner_rows.specs.Rows.{RowsRight}
 use Rattle.planner_settings.specs.Route.{Each}
 use Rattle.planner_forward.specs.Goals.{goal_with}
-use Rattle.planner_settings.proofs.SettingWalk.{settings_count}
-use Rattle.planner_forward.proofs.GoalLaws.{goal_skip, goal_there, goal_nowhere}
 use Rattle.planner_forward.proofs.goals.has_goal.Given as goal
 
 abbrev pub invariant-loop-x : goal.invariant-loop-x

@@ -1,8 +1,6 @@
 -- `planner_forward::goals::meets_goal` meets its contract.
 -- Assumes nothing.
 use mathlib.Core.Path.{sym, ◌∙◌}
-use borrow.Author.Rules.{rules}
-use borrow.Author.Tests.{not-true}
 use Rattle.planner_forward.proofs.GoalLaws.{goal_not_come}
 use Rattle.planner_forward.proofs.goals.meets_goal.Goals as goal
 
@@ -10,7 +8,7 @@ pub returns-then-not-has : goal.returns-then-not-has
 returns-then-not-has c = record {
   rows_right = c.requires.rows_right;
   goal = λ net p all known sets. goal_not_come net c.args.full all c.requires.room.1 c.args.table.now c.args.i c.args.came sets
-      (sym c.has.ensures ∙ not-true c.has.result c.if-not-has.true-raw);
+      (sym c.has.ensures ∙ c.if-not-has.true);
 }
 
 pub returns : goal.returns

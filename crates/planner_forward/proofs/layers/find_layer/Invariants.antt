@@ -1,15 +1,13 @@
 -- `planner_forward::layers::find_layer` meets its contract. The loop's invariant: the search has come to layer i, no layer so far has a goal, and
 -- nothing behind the slots has changed.
 -- Assumes nothing.
-use mathlib.Core.Path.{◌≡◌, refl, ◌∙◌}
-use mathlib.Core.Logic.{inr}
-use Prim.Native.Nat.{ℕ, ◌*◌, ◌-◌, ◌≤◌, ◌<◌}
-use native.Mathlib.Omega.{arith}
-use lib.ListN.{length, get_or, set, replicate, length-set, length-replicate}
+use mathlib.Core.Path.{◌≡◌}
+use Prim.Native.Nat.{ℕ, ◌*◌, ◌-◌, ◌≤◌}
+use lib.ListN.{length, get_or}
 use Rattle.planner_rows.specs.Rows.{RowsRight}
 use Rattle.planner_settings.specs.Route.{Each}
 use Rattle.planner_forward.specs.Spreading.{SearchStarts}
-use Rattle.planner_forward.proofs.Layering.{Forward, seen_start, forward_start, slot_sets, forward_next, met_goal, met_empty, met_nothing}
+use Rattle.planner_forward.proofs.Layering.{Forward}
 use Rattle.planner_forward.proofs.layers.find_layer.Given as goal
 
 abbrev pub invariant-loop-i : goal.invariant-loop-i

@@ -1,10 +1,7 @@
 -- `planner_forward::layers::spread_choices` meets its contract. The loop's invariant: the sets got have gone where the first c choices lead.
 -- Assumes nothing.
-use mathlib.Core.Path.{subst}
-use Prim.Native.Nat.{ℕ, ◌-◌, ◌≤◌}
-use native.Mathlib.Omega.{arith}
-use Rattle.planner_forward.specs.Spreading.{Spread, AtSetting, Arrives}
-use Rattle.planner_forward.proofs.SpreadLaws.{arrives_none, arrives_more}
+use Prim.Native.Nat.{◌-◌, ◌≤◌}
+use Rattle.planner_forward.specs.Spreading.{Spread, Arrives}
 use Rattle.planner_forward.proofs.layers.spread_choices.Given as goal
 
 abbrev pub invariant-loop-c : goal.invariant-loop-c

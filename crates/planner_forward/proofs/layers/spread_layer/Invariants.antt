@@ -1,19 +1,12 @@
 -- `planner_forward::layers::spread_layer` meets its contract. The loop's invariant: all that leaves the settings below x has been spread, and its
 -- sets are in all.
 -- Assumes nothing.
-use mathlib.Core.Path.{◌≡◌}
-use mathlib.Core.Logic.{inl}
-use Prim.Native.Nat.{◌+◌, ◌*◌, ◌-◌, ◌≤◌, ◌<◌}
-use native.Mathlib.Omega.{arith}
-use lib.ListN.{get_or}
-use Rattle.model.specs.Network.{Network}
-use Rattle.planner_settings.specs.Route.{Prepared, Each}
-use Rattle.planner_rows.specs.Rows.{RowsRight, Lands}
+use Prim.Native.Nat.{◌-◌, ◌≤◌}
+use Rattle.planner_settings.specs.Route.{Each}
+use Rattle.planner_rows.specs.Rows.{RowsRight}
 use Rattle.planner_forward.specs.Goals.{SetsIn}
 use Rattle.planner_forward.specs.Spreading.{Spread}
-use Rattle.planner_settings.proofs.SettingWalk.{settings_count}
-use Rattle.planner_rows.proofs.RowLaws.{lands_of, landing_of}
-use Rattle.planner_forward.proofs.Leaving.{LeftBelow, left_none, left_more, left_skip, left_all, left_start, sets_none, sets_more, sets_skip, sets_all, sets_start}
+use Rattle.planner_forward.proofs.Leaving.{LeftBelow}
 use Rattle.planner_forward.proofs.layers.spread_layer.Given as goal
 
 abbrev pub invariant-loop-x : goal.invariant-loop-x
