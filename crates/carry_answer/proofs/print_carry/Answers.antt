@@ -6,10 +6,11 @@ use Rattle.program_text.proofs.Front.{printed_to}
 use Rattle.carry_answer.proofs.print_carry.Goals as goal
 
 pub returns-in-Written : goal.returns-in-Written
-returns-in-Written c = let called = c.carry-carried in
-    printed_to _ _ (carry_written _ _ _ (search rules) _ _ called.ensures _ c.in-Written.is)
+returns-in-Written c =
+    let p = printed_to _ _ (carry_written _ _ _ (search rules) _ _ c.carry-carried.ensures _ c.in-Written.is) in
+    record { printed_to = p.0; prefix_len = p.1 }
 
 pub returns-in-Refused : goal.returns-in-Refused
-returns-in-Refused c = let answered = c in
-    let called = answered.carry-carried in
-    printed_to _ _ (carry_refused _ _ _ (search rules) _ _ called.ensures _ _ answered.in-Refused.is c.put_refusal.ensures)
+returns-in-Refused c =
+    let p = printed_to _ _ (carry_refused _ _ _ (search rules) _ _ c.carry-carried.ensures _ _ c.in-Refused.is c.put_refusal.ensures) in
+    record { printed_to = p.0; prefix_len = p.1 }

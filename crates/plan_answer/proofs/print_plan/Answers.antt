@@ -6,11 +6,11 @@ use Rattle.program_text.proofs.Front.{printed_to}
 use Rattle.plan_answer.proofs.print_plan.Goals as goal
 
 pub returns-in-Written : goal.returns-in-Written
-returns-in-Written c = let made = c.make_plan-planned in
-    printed_to _ _ (plan_written _ _ _ (search rules) (search rules) _ _ _ made.ensures _ c.in-Written.is)
+returns-in-Written c =
+    let p = printed_to _ _ (plan_written _ _ _ (search rules) (search rules) _ _ _ c.make_plan-planned.ensures _ c.in-Written.is) in
+    record { printed_to = p.0; prefix_len = p.1 }
 
 pub returns-in-Refused : goal.returns-in-Refused
-returns-in-Refused c = let answered = c in
-    let made = answered.make_plan-planned in
-    printed_to _ _
-    (plan_refused _ _ _ (search rules) (search rules) _ _ _ made.ensures _ _ answered.in-Refused.is c.put_refusal.ensures)
+returns-in-Refused c =
+    let p = printed_to _ _ (plan_refused _ _ _ (search rules) (search rules) _ _ _ c.make_plan-planned.ensures _ _ c.in-Refused.is c.put_refusal.ensures) in
+    record { printed_to = p.0; prefix_len = p.1 }
