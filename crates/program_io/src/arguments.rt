@@ -1,4 +1,6 @@
 // The arguments of a program: options, and the operands that name its texts.
+use std::env::FillError;
+use std::rt::Env;
 
 // What one argument is.
 #[derive(Drop)]
@@ -14,7 +16,7 @@ pub enum Kind {
 
 // The arguments as far as they are looked at. `decides` is the number of the option that decides, `extra` that of the
 // first operand too many, 0 for none; `first` and `second` are operands by number, 0 for standard input.
-#[derive(Drop)]
+#[derive(Clone, Copy)]
 pub struct Scan {
     pub options_ended: bool,
     pub reports: bool,
@@ -59,13 +61,21 @@ fn kind_of(argument: &[u8], options_ended: bool) -> Kind {
 }
 
 // The kind of argument i. Its first bytes tell, as no option is longer.
-pub fn kind_at(i: usize, options_ended: bool) -> Kind {
+pub fn kind_at(rt: &HostRuntime, i: usize, options_ended: bool) -> Kind {
     let mut front = [0u8; 16];
-    let n = os::arg(i, &mut front);
-    if os::errno() != 0 {
-        return kind_of(&front, options_ended);
+    match rt.arg(i, &mut front) {
+        Ok(n) => kind_of(&front[..n], options_ended),
+        Err(_) => kind_of(&front, options_ended),
     }
-    kind_of(&front[..n], options_ended)
+}
+
+// Whether there is an argument i.
+fn is_there(rt: &HostRuntime, i: usize) -> bool {
+    let mut front = [0u8; 1];
+    match rt.arg(i, &mut front) {
+        Ok(_) | Err(FillError::TooLong) => true,
+        Err(FillError::NotPresent) => false,
+    }
 }
 
 impl Scan {
@@ -86,8 +96,8 @@ impl Scan {
     }
 
     // With argument i.
-    fn with_argument(mut self, most: usize, i: usize) -> Scan {
-        match kind_at(i, self.options_ended) {
+    fn with_argument(mut self, rt: &HostRuntime, most: usize, i: usize) -> Scan {
+        match kind_at(rt, i, self.options_ended) {
             Kind::Operand => return self.with_operand(most, i, i),
             Kind::StandardInput => return self.with_operand(most, i, 0),
             Kind::OptionsEnd => self.options_ended = true,
@@ -99,8 +109,7 @@ impl Scan {
 }
 
 // Every argument in turn, up to the first that decides.
-pub fn scan_all(most: usize) -> Scan {
-    let count = os::arg_count();
+pub fn scan_all(rt: &HostRuntime, most: usize) -> Scan {
     let mut scan = Scan {
         options_ended: false,
         reports: false,
@@ -110,13 +119,14 @@ pub fn scan_all(most: usize) -> Scan {
         first: 0,
         second: 0,
     };
-    let mut i: usize = 1;
-    while i < count {
-        scan = scan.with_argument(most, i);
+    for i in 1..usize::MAX {
+        if !is_there(rt, i) {
+            break;
+        }
+        scan = scan.with_argument(rt, most, i);
         if scan.decides != 0 {
             break;
         }
-        i += 1;
     }
     scan
 }

@@ -1,7 +1,8 @@
-// What one call of `read` or `write` did.
+// What one call that reads or writes did.
 ghost use Rattle.program_io.specs.Moves.{WithinBuffer};
 
-use libc::EINTR;
+use crate::errors::{EINTR, number};
+use std::io::Result;
 
 // Interruptions that the reading of a part or the writing of an answer goes on after. Each loop has to end, so that one
 // more counts as a failure; no signal comes nearly as often.
@@ -17,16 +18,15 @@ pub enum Moved {
     Failed(i32),
 }
 
-// By what a call on a buffer answered. It stands right behind the call, as errno does not last.
-pub fn after_call(answer: isize, buffer: &[u8]) -> Moved
+// By what a call on a buffer answered.
+pub fn after_call(answer: Result<usize>, buffer: &[u8]) -> Moved
     ensures { WithinBuffer result buffer.now }
 {
-    if 0 <= answer {
-        return Moved::Bytes(io::count(answer, buffer));
+    match answer {
+        Ok(n) => Moved::Bytes(n.min(buffer.len())),
+        Err(error) => match number(error) {
+            EINTR => Moved::Interrupted,
+            errno => Moved::Failed(errno),
+        },
     }
-    let error = os::errno();
-    if error == EINTR {
-        return Moved::Interrupted;
-    }
-    Moved::Failed(error)
 }

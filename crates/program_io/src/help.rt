@@ -5,18 +5,19 @@ use crate::status::{ANSWERED, NO_ANSWER};
 
 const VERSION: [u8; 3] = *b"1.5";
 
-pub fn put_version(name: &[u8]) -> u8 {
+pub fn put_version(rt: &HostRuntime, name: &[u8]) -> u8 {
     let mut line = [0u8; 64];
     let next = add(&mut line, 0, name);
     let middle = add(&mut line, next, b" (penthluk) ");
     let behind = add(&mut line, middle, &VERSION);
     let n = end(&mut line, behind);
-    put(name, &line[..n], ANSWERED)
+    put(rt, name, &line[..n], ANSWERED)
 }
 
 // What all programs have.
-fn put_options(name: &[u8]) -> u8 {
+fn put_options(rt: &HostRuntime, name: &[u8]) -> u8 {
     put(
+        rt,
         name,
         b"  --help     show this text\n  \
             --version  show the version\n  \
@@ -27,9 +28,9 @@ fn put_options(name: &[u8]) -> u8 {
 }
 
 // The program's own lines, then the others. Nothing is written after a write that failed.
-pub fn put_help(name: &[u8], help: &[u8]) -> u8 {
-    if put_part(name, help) {
-        return put_options(name);
+pub fn put_help(rt: &HostRuntime, name: &[u8], help: &[u8]) -> u8 {
+    if put_part(rt, name, help) {
+        return put_options(rt, name);
     }
     NO_ANSWER
 }

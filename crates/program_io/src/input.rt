@@ -3,7 +3,7 @@ ghost use Rattle.std.specs.Prelude.{◌≡◌};
 ghost use Rattle.io.specs.Counts.{IsPrefixLen};
 
 use crate::finish::give_up;
-use crate::stream::{Part, close, open_operand, read_part};
+use crate::stream::{Part, Source, close, open_operand, read_part};
 
 // A text at the front of a buffer, by its count of bytes; or none, and errno.
 #[derive(Drop)]
@@ -25,12 +25,12 @@ pub fn unread(error: i32) -> Input
 }
 
 // Reads until the buffer is full or the input ends. Each turn leaves less room.
-fn read_all(fd: i32, text: &mut [u8]) -> Input
+fn read_all(source: &mut Source, text: &mut [u8]) -> Input
     ensures { IsPrefixLen result.count text.new }
 {
     let mut done: usize = 0;
     while done < text.len() {
-        match read_part(fd, &mut text[done..]) {
+        match read_part(source, &mut text[done..]) {
             Part::Bytes(n) => done += n,
             Part::End => break,
             Part::Failed(error) => return unread(error),
@@ -44,30 +44,38 @@ fn read_all(fd: i32, text: &mut [u8]) -> Input
 }
 
 // The text of operand i, an argument's number, or 0 for standard input.
-fn read_operand(i: usize, text: &mut [u8]) -> Input
+fn read_operand(rt: &HostRuntime, i: usize, text: &mut [u8]) -> Input
     ensures { IsPrefixLen result.count text.new }
 {
-    let source = open_operand(i);
-    if !source.is_open {
-        return unread(source.error);
+    match open_operand(rt, i) {
+        Ok(mut source) => {
+            let input = read_all(&mut source, text);
+            close(source);
+            input
+        }
+        Err(error) => unread(error),
     }
-    let input = read_all(source.fd, text);
-    close(source.fd);
-    input
 }
 
 // The same, and nothing is read for a program that does not run, or not on after a text before this one. Where the text can't be
 // read to its end, everything is said and reported. A buffer of one byte more than a text may have lets a longer one reach the
 // call that refuses it.
-pub fn read_text(name: &[u8], runs: bool, reports: bool, i: usize, text: &mut [u8]) -> Input
+pub fn read_text(
+    rt: &HostRuntime,
+    name: &[u8],
+    runs: bool,
+    reports: bool,
+    i: usize,
+    text: &mut [u8],
+) -> Input
     ensures { IsPrefixLen result.count text.new }
 {
     if !runs {
         return unread(0);
     }
-    let input = read_operand(i, text);
+    let input = read_operand(rt, i, text);
     if !input.is_read {
-        give_up(name, reports, i, input.error);
+        give_up(rt, name, reports, i, input.error);
     }
     input
 }

@@ -23,39 +23,42 @@ enum Decision {
 }
 
 // The option that decides.
-fn answer_option(name: &[u8], help: &[u8], i: usize) -> u8 {
-    match kind_at(i, false) {
-        Kind::Help => put_help(name, help),
-        Kind::Version => put_version(name),
+fn answer_option(rt: &HostRuntime, name: &[u8], help: &[u8], i: usize) -> u8 {
+    match kind_at(rt, i, false) {
+        Kind::Help => put_help(rt, name, help),
+        Kind::Version => put_version(rt, name),
         _ => put_no_answer(
+            rt,
             name,
-            say_argument(name, i, b" is no option; --help shows the usage"),
+            say_argument(rt, name, i, b" is no option; --help shows the usage"),
         ),
     }
 }
 
 // The operand behind those that are given.
-fn say_missing(name: &[u8], operands: usize) -> u8 {
+fn say_missing(rt: &HostRuntime, name: &[u8], operands: usize) -> u8 {
     if operands == 0 {
-        return say(name, b"NETWORK is missing; --help shows the usage");
+        return say(rt, name, b"NETWORK is missing; --help shows the usage");
     }
-    say(name, b"PLAN is missing; --help shows the usage")
+    say(rt, name, b"PLAN is missing; --help shows the usage")
 }
 
 // What is wrong with the operands, as a message's status, or nothing.
-fn decide_operands(name: &[u8], least: usize, scan: Scan) -> Decision {
+fn decide_operands(rt: &HostRuntime, name: &[u8], least: usize, scan: Scan) -> Decision {
     if scan.extra != 0 {
         return Decision::Ends(say_argument(
+            rt,
             name,
             scan.extra,
             b" is one argument too many; --help shows the usage",
         ));
     }
     if scan.operands < least {
-        return Decision::Ends(say_missing(name, scan.operands));
+        return Decision::Ends(say_missing(rt, name, scan.operands));
     }
     if 1 < scan.operands && scan.first == 0 && scan.second == 0 {
         return Decision::Ends(say(
+            rt,
             name,
             b"'-' stands for both texts; standard input can be read only once",
         ));
@@ -63,22 +66,22 @@ fn decide_operands(name: &[u8], least: usize, scan: Scan) -> Decision {
     Decision::Runs
 }
 
-fn decide(name: &[u8], help: &[u8], least: usize, scan: Scan) -> Decision {
+fn decide(rt: &HostRuntime, name: &[u8], help: &[u8], least: usize, scan: Scan) -> Decision {
     if scan.decides != 0 {
-        return Decision::Ends(answer_option(name, help, scan.decides));
+        return Decision::Ends(answer_option(rt, name, help, scan.decides));
     }
-    match decide_operands(name, least, scan) {
-        Decision::Ends(said) => Decision::Ends(put_no_answer(name, said)),
+    match decide_operands(rt, name, least, scan) {
+        Decision::Ends(said) => Decision::Ends(put_no_answer(rt, name, said)),
         Decision::Runs => Decision::Runs,
     }
 }
 
 // A program by its name, its own lines of help and the least and the most operands that it takes.
-pub fn begin(name: &[u8], help: &[u8], least: usize, most: usize) -> Call {
-    let scan = scan_all(most);
+pub fn begin(rt: &HostRuntime, name: &[u8], help: &[u8], least: usize, most: usize) -> Call {
+    let scan = scan_all(rt, most);
     let mut runs = true;
-    if let Decision::Ends(status) = decide(name, help, least, scan) {
-        finish(name, scan.reports, status);
+    if let Decision::Ends(status) = decide(rt, name, help, least, scan) {
+        finish(rt, name, scan.reports, status);
         runs = false;
     }
     Call {

@@ -2,20 +2,22 @@
 ghost use Rattle.program_io.specs.Moves.{WithinBuffer, PartOf};
 
 use crate::calls::{MAX_INTERRUPTIONS, Moved, after_call};
-use libc::{EINTR, STDIN_FILENO};
+use crate::errors::{EFBIG, EILSEQ, EINTR, ENAMETOOLONG, number};
+use std::fs::File;
+use std::io::{Read, Stdin};
+use std::rt::Env;
 
 // Parts that an input may have, and the errno of one that has more. Each loop has to end; as a part has a byte at least, no
 // input has as many.
 pub const MAX_PARTS: u64 = 18446744073709551615;
 
-pub const TOO_MANY_PARTS: i32 = libc::EFBIG;
+pub const TOO_MANY_PARTS: i32 = EFBIG;
 
-// An open descriptor; or none, and errno.
+// What an operand is read from.
 #[derive(Drop)]
-pub struct Source {
-    pub is_open: bool,
-    pub fd: i32,
-    pub error: i32,
+pub enum Source {
+    StandardInput(Stdin),
+    OpenFile(File),
 }
 
 #[derive(Drop)]
@@ -28,67 +30,57 @@ pub enum Part {
     Failed(i32),
 }
 
-fn opened(fd: i32) -> Source {
-    Source {
-        is_open: true,
-        fd,
-        error: 0,
-    }
-}
-
-fn unopened(error: i32) -> Source {
-    Source {
-        is_open: false,
-        fd: -1,
-        error,
+// The file of a path, or the errno. The library opens a path of UTF-8 alone.
+fn open_path(rt: &HostRuntime, path: &[u8]) -> Result<Source, i32> {
+    match std::str::from_utf8(path) {
+        Ok(text) => match File::open(rt, text) {
+            Ok(file) => Ok(Source::OpenFile(file)),
+            Err(error) => Err(number(error)),
+        },
+        Err(_) => Err(EILSEQ),
     }
 }
 
 // The file that argument i names.
-fn open_file(i: usize) -> Source {
+fn open_file(rt: &HostRuntime, i: usize) -> Result<Source, i32> {
     let mut path = io::buffer();
-    let n = os::arg(i, &mut path);
-    let error = os::errno();
-    if error != 0 {
-        return unopened(error);
+    match rt.arg(i, &mut path) {
+        Ok(n) => open_path(rt, &path[..n]),
+        Err(_) => Err(ENAMETOOLONG),
     }
-    let fd = os::open_read(&path[..n]);
-    if fd < 0 {
-        return unopened(os::errno());
-    }
-    opened(fd)
 }
 
-// Operand i, an argument's number, or 0 for standard input.
-pub fn open_operand(i: usize) -> Source {
+// Operand i, an argument's number, or 0 for standard input; or the errno.
+pub fn open_operand(rt: &HostRuntime, i: usize) -> Result<Source, i32> {
     if i == 0 {
-        return opened(STDIN_FILENO);
+        return Ok(Source::StandardInput(rt.stdin()));
     }
-    open_file(i)
+    open_file(rt, i)
 }
 
 // Standard input, which was open before, stays so.
-pub fn close(fd: i32) {
-    if fd != STDIN_FILENO {
-        libc::close(fd);
-    }
+pub fn close(source: Source) {
+    drop(source);
 }
 
-// One call of `read`: the count of bytes at the front of the buffer, 0 at the input's end.
-fn read_some(fd: i32, buffer: &mut [u8]) -> Moved
+// One call that reads: the count of bytes at the front of the buffer, 0 at the input's end.
+fn read_some(source: &mut Source, buffer: &mut [u8]) -> Moved
     ensures { WithinBuffer result buffer.new }
 {
-    let answer = libc::read(fd, buffer);
+    let answer = match source {
+        Source::StandardInput(stdin) => stdin.read(buffer),
+        Source::OpenFile(file) => file.read(buffer),
+    };
     after_call(answer, buffer)
 }
 
 // The next bytes, as many as one call brings, on after an interruption. For an empty buffer it is the end.
-pub fn read_part(fd: i32, buffer: &mut [u8]) -> Part
+pub fn read_part(source: &mut Source, buffer: &mut [u8]) -> Part
     ensures { PartOf result buffer.new }
 {
     let mut interruptions = MAX_INTERRUPTIONS;
     loop {
-        match read_some(fd, buffer) {
+        match read_some(source, buffer) {
             Moved::Bytes(n) => {
                 if n == 0 {
                     return Part::End;
