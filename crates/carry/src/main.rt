@@ -8,9 +8,10 @@ use program_io::finish::answer;
 use program_io::input::read_text;
 use program_io::start::begin;
 
-fn main() {
+fn main(rt: HostRuntime) {
     let name = b"carry";
     let call = begin(
+        &rt,
         name,
         b"usage: carry NETWORK PLAN\n\
           NETWORK is the file of a network text, PLAN that of a plan text; - for one of them is standard input.\n\
@@ -19,9 +20,16 @@ fn main() {
         2,
     );
     let mut network = [0u8; MAX_NETWORK_BYTES + 1];
-    let first = read_text(name, call.runs, call.reports, call.first, &mut network);
+    let first = read_text(&rt, name, call.runs, call.reports, call.first, &mut network);
     let mut plan = [0u8; MAX_PLAN_BYTES + 1];
-    let second = read_text(name, first.is_read, call.reports, call.second, &mut plan);
+    let second = read_text(
+        &rt,
+        name,
+        first.is_read,
+        call.reports,
+        call.second,
+        &mut plan,
+    );
     if !second.is_read {
         return;
     }
@@ -29,5 +37,5 @@ fn main() {
     let p = second.count;
     let mut out = [0u8; ROOM];
     let end = print_carry(&network[..n], &plan[..p], &mut out);
-    answer(name, call.reports, &out[..end]);
+    answer(&rt, name, call.reports, &out[..end]);
 }

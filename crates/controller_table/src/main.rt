@@ -38,9 +38,10 @@ fn put_states(out: &mut [u8]) -> usize
     end
 }
 
-fn main() {
+fn main(rt: HostRuntime) {
     let name = b"controller_table";
     let call = begin(
+        &rt,
         name,
         b"usage: controller_table\n\
           Prints state with its number and the next states for TMS 0 and TMS 1, for each state.\n",
@@ -50,6 +51,6 @@ fn main() {
     if call.runs {
         let mut out = [0u8; ROOM];
         let n = put_states(&mut out);
-        answer(name, call.reports, &out[..n]);
+        answer(&rt, name, call.reports, &out[..n]);
     }
 }

@@ -8,9 +8,10 @@ use program_io::input::read_text;
 use program_io::start::begin;
 use read_answer::{ROOM, print_reading};
 
-fn main() {
+fn main(rt: HostRuntime) {
     let name = b"read";
     let call = begin(
+        &rt,
         name,
         b"usage: read [NETWORK]\n\
           NETWORK is the file of a network text, - or nothing for standard input.\n\
@@ -19,12 +20,12 @@ fn main() {
         1,
     );
     let mut text = [0u8; MAX_NETWORK_BYTES + 1];
-    let input = read_text(name, call.runs, call.reports, call.first, &mut text);
+    let input = read_text(&rt, name, call.runs, call.reports, call.first, &mut text);
     if !input.is_read {
         return;
     }
     let n = input.count;
     let mut out = [0u8; ROOM];
     let end = print_reading(&text[..n], &mut out);
-    answer(name, call.reports, &out[..end]);
+    answer(&rt, name, call.reports, &out[..end]);
 }

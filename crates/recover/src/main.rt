@@ -8,7 +8,7 @@ use model::limits::MAX_PLAN_BYTES;
 use program_io::finish::{answer, give_up};
 use program_io::input::{Input, unread};
 use program_io::start::begin;
-use program_io::stream::{MAX_PARTS, Part, TOO_MANY_PARTS, close, open_operand, read_part};
+use program_io::stream::{MAX_PARTS, Part, Source, TOO_MANY_PARTS, close, open_operand, read_part};
 use recover_answer::print_recovery;
 use recover_line::{Stepped, at_first};
 use recover_model::MAX_LINE_BYTES;
@@ -19,15 +19,14 @@ const ROOM: usize = 2 * MAX_LINE_BYTES;
 
 // Reads to the input's end, after a refusal too: an input that can't be read to its end is not answered for. What is printed,
 // at the front of a buffer.
-fn read_clocks(fd: i32, plan: &mut [u8; MAX_PLAN_BYTES]) -> Input
+fn read_clocks(source: &mut Source, plan: &mut [u8; MAX_PLAN_BYTES]) -> Input
     ensures { IsPrefixLen result.count plan.new }
 {
     let mut text = [0u8; ROOM];
     let mut answer = Stepped::To(at_first());
     let mut held: usize = 0;
-    let mut parts = MAX_PARTS;
-    while 0 < parts {
-        match read_part(fd, &mut text[held..]) {
+    for _ in 0..MAX_PARTS {
+        match read_part(source, &mut text[held..]) {
             Part::Bytes(n) => {
                 let end = held + n;
                 let step = recover_part(answer, &mut text[..end], plan);
@@ -43,27 +42,28 @@ fn read_clocks(fd: i32, plan: &mut [u8; MAX_PLAN_BYTES]) -> Input
             }
             Part::Failed(error) => return unread(error),
         }
-        parts -= 1;
     }
     unread(TOO_MANY_PARTS)
 }
 
 // Of operand i, an argument's number, or 0 for standard input.
-fn read_operand(i: usize, plan: &mut [u8; MAX_PLAN_BYTES]) -> Input
+fn read_operand(rt: &HostRuntime, i: usize, plan: &mut [u8; MAX_PLAN_BYTES]) -> Input
     ensures { IsPrefixLen result.count plan.new }
 {
-    let source = open_operand(i);
-    if !source.is_open {
-        return unread(source.error);
+    match open_operand(rt, i) {
+        Ok(mut source) => {
+            let input = read_clocks(&mut source, plan);
+            close(source);
+            input
+        }
+        Err(error) => unread(error),
     }
-    let input = read_clocks(source.fd, plan);
-    close(source.fd);
-    input
 }
 
-fn main() {
+fn main(rt: HostRuntime) {
     let name = b"recover";
     let call = begin(
+        &rt,
         name,
         b"usage: recover [CLOCKS]\n\
           CLOCKS is the file of clk lines, of any number, - or nothing for standard input.\n\
@@ -75,11 +75,11 @@ fn main() {
         return;
     }
     let mut plan = [0u8; MAX_PLAN_BYTES];
-    let input = read_operand(call.first, &mut plan);
+    let input = read_operand(&rt, call.first, &mut plan);
     if !input.is_read {
-        give_up(name, call.reports, call.first, input.error);
+        give_up(&rt, name, call.reports, call.first, input.error);
         return;
     }
     let n = input.count;
-    answer(name, call.reports, &plan[..n]);
+    answer(&rt, name, call.reports, &plan[..n]);
 }
