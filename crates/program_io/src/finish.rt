@@ -1,27 +1,37 @@
 // The end of a program, with its status on descriptor 3 where it is asked to report one.
-use crate::errors::{EBADF, ENOENT, number};
+use crate::errors::{EBADF, number};
 use crate::message::{say_error, say_unread};
 use crate::output::{put_answer, put_no_answer};
 use crate::status::{ANSWERED, REFUSED};
 use crate::write::{Wrote, write_whole};
-use std::fs::OpenOptions;
+use std::fs::{OpenOptions, symlink_metadata};
 
 const STATUS_FILENO: i32 = 3;
 
+// The name of the same descriptor.
 const STATUS_PATH: &str = "/proc/self/fd/3";
 
-// By the descriptor's name, which can tell why nothing is taken: one that is not open has none.
-fn write_by_name(rt: &HostRuntime, digit: &[u8; 1]) -> Wrote {
-    match OpenOptions::new().append(true).open(rt, STATUS_PATH) {
-        Ok(mut file) => write_whole(&mut file, digit),
-        Err(error) => match number(error) {
-            ENOENT => Wrote::Failed(EBADF),
-            errno => Wrote::Failed(errno),
-        },
+// Whether the descriptor is open for writing, which its name tells.
+fn takes_status(rt: &HostRuntime) -> bool {
+    match symlink_metadata(rt, STATUS_PATH) {
+        Ok(link) => !link.permissions().readonly(),
+        Err(_) => false,
     }
 }
 
-// By the descriptor's number. Where that takes nothing, an interruption may be all that is wrong.
+// By the descriptor's name.
+fn write_by_name(rt: &HostRuntime, digit: &[u8; 1]) -> Wrote {
+    if !takes_status(rt) {
+        return Wrote::Failed(EBADF);
+    }
+    match OpenOptions::new().append(true).open(rt, STATUS_PATH) {
+        Ok(mut file) => write_whole(&mut file, digit),
+        Err(error) => Wrote::Failed(number(error)),
+    }
+}
+
+// By the descriptor's number, and where that fails once more by its name: the first try tells no errno, so it may only have been
+// interrupted.
 fn write_digit(rt: &HostRuntime, digit: &[u8; 1]) -> Wrote {
     if io::write_all(STATUS_FILENO, digit) {
         return Wrote::Whole;
