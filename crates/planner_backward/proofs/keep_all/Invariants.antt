@@ -1,14 +1,12 @@
 -- `planner_backward::keep_all` meets its contract. The invariant: layers i + 1 to d are kept.
 -- Assumes nothing.
-use Prim.Native.Nat.{◌*◌, ◌≤◌, ◌-◌}
-use mathlib.Core.Path.{◌≡◌, refl, ◌∙◌}
-use native.Mathlib.Omega.{arith}
+use Prim.Native.Nat.{◌*◌, ◌≤◌}
+use mathlib.Core.Path.{◌≡◌}
 use lib.ListN.{length}
 use Rattle.planner_settings.specs.Route.{Each}
 use Rattle.planner_rows.specs.Rows.{RowsRight}
 use Rattle.planner_forward.specs.Spreading.{Met, SearchStarts}
-use Rattle.planner_backward.proofs.KeptLayers.{KeptDown, kept_none, kept_next, kept_all}
-use borrow.Author.Rules.{rules}
+use Rattle.planner_backward.proofs.KeptLayers.{KeptDown}
 use Rattle.planner_backward.proofs.keep_all.Given as goal
 
 abbrev pub invariant-loop-i : goal.invariant-loop-i

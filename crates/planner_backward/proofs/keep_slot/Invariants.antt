@@ -1,17 +1,13 @@
 -- `planner_backward::keep_slot` meets its contract. The invariant: slot i is filtered up to setting x.
 -- Assumes nothing.
-use Prim.Native.Nat.{◌+◌, ◌≤◌, ◌<◌, ◌-◌}
-use mathlib.Core.Path.{◌≡◌, refl}
-use native.Mathlib.Omega.{arith}
-use lib.ListN.{length, length-set}
+use Prim.Native.Nat.{◌≤◌, ◌-◌}
+use mathlib.Core.Path.{◌≡◌}
+use lib.ListN.{length}
 use Rattle.planner_theory.specs.Moves.{all_of}
 use Rattle.planner_settings.specs.Route.{Each}
-use Rattle.planner_settings.proofs.SettingWalk.{settings_count}
 use Rattle.planner_rows.specs.Rows.{RowsRight}
 use Rattle.planner_backward.specs.Keeping.{leads}
-use Rattle.planner_backward.proofs.Filtering.{Filtering, filtering_none, filtering_more, filtering_skip, filtering_all}
-use Rattle.planner_backward.proofs.SetTests.{filtered_by, leads_same}
-use borrow.Author.Rules.{rules}
+use Rattle.planner_backward.proofs.Filtering.{Filtering}
 use Rattle.planner_backward.proofs.keep_slot.Given as goal
 
 abbrev pub invariant-loop-x : goal.invariant-loop-x

@@ -1,15 +1,14 @@
 -- `planner_backward::union_of` meets its contract. The invariant: all sets that the choices passed lead to are joined.
 -- Assumes nothing.
-use Prim.Native.Nat.{◌≤◌, ◌<◌, ◌-◌}
+use Prim.Native.Nat.{◌<◌}
 use mathlib.Core.Path.{◌≡◌}
 use native.Mathlib.Omega.{arith}
-use Rattle.planner_backward.specs.Keeping.{UnionOf}
 use Rattle.planner_backward.proofs.SetTests.{union_none, union_more}
 use borrow.Author.Rules.{rules}
 use Rattle.planner_backward.proofs.union_of.Goals as goal
 
 pub loop-c-init : goal.loop-c-init
-loop-c-init c = let p = c in (search rules, union_none p.args.table.now p.args.i p.args.lands.now)
+loop-c-init c = (search rules, union_none c.args.table.now c.args.i c.args.lands.now)
 
 pub overflow_add-all : goal.overflow_add-all
 overflow_add-all c =
@@ -30,9 +29,8 @@ bounds-table-i c =
     omega (arith, small)
 
 pub loop-c-preserved : goal.loop-c-preserved
-loop-c-preserved c = let p = c in
-    let l = c.loop-c in
-    (search rules, rw c.wide.ensures (union_more p.args.table.now p.args.i p.args.lands.now l.c l.all l.invariant.1))
+loop-c-preserved c = let l = c.loop-c in
+    (search rules, rw c.wide.ensures (union_more c.args.table.now c.args.i c.args.lands.now l.c l.all l.invariant.1))
 
 pub returns : goal.returns
 returns c = let l = c.loop-c in

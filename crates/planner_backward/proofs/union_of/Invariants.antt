@@ -1,11 +1,7 @@
 -- `planner_backward::union_of` meets its contract. The invariant: all sets that the choices passed lead to are joined.
 -- Assumes nothing.
-use Prim.Native.Nat.{◌≤◌, ◌<◌, ◌-◌}
-use mathlib.Core.Path.{◌≡◌}
-use native.Mathlib.Omega.{arith}
+use Prim.Native.Nat.{◌≤◌, ◌-◌}
 use Rattle.planner_backward.specs.Keeping.{UnionOf}
-use Rattle.planner_backward.proofs.SetTests.{union_none, union_more}
-use borrow.Author.Rules.{rules}
 use Rattle.planner_backward.proofs.union_of.Given as goal
 
 abbrev pub invariant-loop-c : goal.invariant-loop-c

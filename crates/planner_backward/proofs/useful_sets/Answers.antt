@@ -3,28 +3,24 @@
 use mathlib.Core.Path.{refl}
 use Rattle.planner_backward.proofs.SetTests.{useful_are}
 use Rattle.planner_rows.proofs.RowLaws.{listed_small, land_small, gain_small, gain_read, gain_read_small}
-use borrow.Author.Rules.{rules}
 use Rattle.planner_backward.proofs.useful_sets.Goals as goal
 
 pub list_lands-n-requires : goal.list_lands-n-requires
-list_lands-n-requires c = let p = c in
-    (refl, p.requires.room.1, p.requires.landing)
+list_lands-n-requires c = (refl, c.requires.room.1, c.requires.landing)
 
 pub union_of-all-requires : goal.union_of-all-requires
-union_of-all-requires c = let p = c in
-    let l = c.list_lands-n.ensures in
+union_of-all-requires c = let l = c.list_lands-n.ensures in
     record {
-      room = (p.requires.room.0, l.most, p.requires.room.2);
-      lands_small = listed_small p.requires.landing.1 l;
+      room = (c.requires.room.0, l.most, c.requires.room.2);
+      lands_small = listed_small c.requires.landing.1 l;
     }
 
 pub kept-requires : goal.kept-requires
 kept-requires c = gain_read_small c.requires.landing.1 c.number.result c.number.ensures
 
 pub returns : goal.returns
-returns c = let p = c in
-    let l = c.list_lands-n in
+returns c = let l = c.list_lands-n in
     let u = c.union_of-all in
     λ net d.
-    useful_are net p.args.table.now p.args.i p.args.x l.result _ p.args.sets u.result c.number.result c.kept.result
+    useful_are net c.args.table.now c.args.i c.args.x l.result _ c.args.sets u.result c.number.result c.kept.result
     (land_small d) (gain_small d) (l.ensures.of net d) u.ensures (gain_read d c.number.result c.number.ensures) c.kept.ensures
