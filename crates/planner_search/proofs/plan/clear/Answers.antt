@@ -1,10 +1,8 @@
 -- `planner_search::plan::clear` meets its contract. The invariant: the first i entries are 0, and the others are as they were.
 -- Assumes nothing.
-use Prim.Native.Nat.{◌≤◌, ◌-◌}
-use mathlib.Core.Path.{◌≡◌, refl}
+use mathlib.Core.Path.{refl}
 use native.Mathlib.Omega.{arith}
-use lib.ListN.{length, length-set, replicate}
-use Rattle.model.specs.Calls.{write_over}
+use lib.ListN.{length-set}
 use Rattle.planner_search.proofs.Zeros.{zeros_none, zeros_more, zeros_all}
 use borrow.Author.Rules.{rules}
 use Rattle.planner_search.proofs.plan.clear.Goals as goal

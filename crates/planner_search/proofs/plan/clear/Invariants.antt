@@ -1,12 +1,9 @@
 -- `planner_search::plan::clear` meets its contract. The invariant: the first i entries are 0, and the others are as they were.
 -- Assumes nothing.
 use Prim.Native.Nat.{◌≤◌, ◌-◌}
-use mathlib.Core.Path.{◌≡◌, refl}
-use native.Mathlib.Omega.{arith}
-use lib.ListN.{length, length-set, replicate}
+use mathlib.Core.Path.{◌≡◌}
+use lib.ListN.{length, replicate}
 use Rattle.model.specs.Calls.{write_over}
-use Rattle.planner_search.proofs.Zeros.{zeros_none, zeros_more, zeros_all}
-use borrow.Author.Rules.{rules}
 use Rattle.planner_search.proofs.plan.clear.Given as goal
 
 abbrev pub invariant-loop-i : goal.invariant-loop-i

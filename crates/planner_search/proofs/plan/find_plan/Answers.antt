@@ -7,7 +7,6 @@ use native.Mathlib.Omega.{arith}
 use lib.ListN.{length, get_or}
 use Rattle.planner_search.proofs.Zeros.{cleared_low, cleared_again}
 use Rattle.planner_search.proofs.Answer.{nothing_found, plan_found}
-use borrow.Author.Rules.{rules}
 use Rattle.planner_search.proofs.plan.find_plan.Goals as goal
 use Rattle.planner_search.proofs.plan.find_plan.Goals.{After-find_layer-d}
 

@@ -1,14 +1,10 @@
 -- `planner_search::trace::first_choice` meets its contract. The invariant: no choice passed leads to a state of the slot.
 -- Assumes nothing.
 use Prim.Native.Nat.{ℕ, ◌+◌, ◌*◌, ◌≤◌, ◌<◌, ◌-◌}
-use mathlib.Core.Path.{◌≡◌, sym, ◌∙◌}
+use mathlib.Core.Path.{◌≡◌}
 use mathlib.Core.Bool.{true}
-use borrow.Author.Count.{below_more}
-use native.Mathlib.Omega.{arith}
 use lib.ListN.{get_or}
 use Rattle.network_words.specs.Words.{word_bit}
-use Rattle.model.proofs.Lists.{true_false}
-use borrow.Author.Rules.{rules}
 use Rattle.planner_search.proofs.trace.first_choice.Given as goal
 
 abbrev pub invariant-loop-c : goal.invariant-loop-c

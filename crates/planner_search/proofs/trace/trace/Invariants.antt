@@ -1,17 +1,13 @@
 -- `planner_search::trace::trace` meets its contract. The invariant: the way has come to setting x with the targets m, and i choices of the
 -- plan are written.
 -- Assumes nothing.
-use Prim.Native.Nat.{◌*◌, ◌%◌, ◌≤◌, ◌<◌, ◌-◌}
-use mathlib.Core.Path.{◌≡◌, refl}
-use native.Mathlib.Omega.{arith}
-use lib.Bits.{or_lt}
-use lib.ListN.{length, length-set}
+use Prim.Native.Nat.{◌*◌, ◌≤◌, ◌<◌, ◌-◌}
+use mathlib.Core.Path.{◌≡◌}
+use lib.ListN.{length}
 use Rattle.planner_rows.specs.Rows.{RowsRight}
 use Rattle.planner_settings.specs.Route.{Each}
 use Rattle.planner_backward.specs.Keeping.{Kept}
-use Rattle.planner_rows.proofs.RowLaws.{landing_of, lands_of, listed_small, gain_read_small}
-use Rattle.planner_search.proofs.KeptWay.{Tracing, tracing_start, tracing_within, tracing_step, tracing_end}
-use borrow.Author.Rules.{rules}
+use Rattle.planner_search.proofs.KeptWay.{Tracing}
 use Rattle.planner_search.proofs.trace.trace.Given as goal
 
 abbrev pub invariant-loop-i : goal.invariant-loop-i
