@@ -2,7 +2,6 @@
 -- Assumes nothing.
 use native.Mathlib.Omega.{arith}
 use Rattle.planner_text.proofs.Writings.{land_listed, land_in}
-use borrow.Author.Rules.{rules}
 use Rattle.planner_text.proofs.land_of.Goals as goal
 
 pub offset_bounds-lands-c : goal.offset_bounds-lands-c

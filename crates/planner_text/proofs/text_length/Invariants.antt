@@ -1,11 +1,9 @@
 -- `planner_text::text_length` meets its contract. The invariant: the table is right, and the law `Counting`: i choices are
 -- passed, and their lines have sum bytes.
 -- Assumes nothing.
-use Prim.Native.Nat.{◌+◌, ◌-◌, ◌≤◌}
-use native.Mathlib.Omega.{arith}
+use Prim.Native.Nat.{◌-◌}
 use Rattle.planner_rows.specs.Rows.{RowsRight}
-use Rattle.planner_text.proofs.Writings.{turn_small, turn_lands, turn_choice, Counting, counting_none, counting_fits, counting_more, counting_all}
-use borrow.Author.Rules.{rules}
+use Rattle.planner_text.proofs.Writings.{Counting}
 use Rattle.planner_text.proofs.text_length.Given as goal
 
 abbrev pub invariant-loop-i : goal.invariant-loop-i

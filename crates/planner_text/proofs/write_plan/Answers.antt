@@ -2,7 +2,6 @@
 -- Assumes nothing.
 use native.Mathlib.Omega.{arith}
 use Rattle.planner_text.proofs.Given.{given_short, given_written}
-use borrow.Author.Rules.{rules}
 use Rattle.planner_text.proofs.write_plan.Goals as goal
 
 pub returns-then-plan-needed : goal.returns-then-plan-needed

@@ -1,15 +1,12 @@
 -- `planner_text::write_text` meets its contract. The invariant: the table is right, and the law `Writing`: the lines of i choices
 -- stand in front of at.
 -- Assumes nothing.
-use mathlib.Core.Path.{◌≡◌}
-use Prim.Native.Nat.{ℕ, ◌-◌}
+use Prim.Native.Nat.{ℕ}
 use native.Mathlib.Omega.{arith}
-use lib.ListN.{length, length-replicate}
-use Rattle.planner_rows.specs.Rows.{RowsRight}
+use lib.ListN.{length-replicate}
 use Rattle.planner_settings.proofs.PathMarks.{no_marks}
 use Rattle.planner_settings.proofs.SettingWalk.{planned_targets}
-use Rattle.planner_text.proofs.Writings.{turn_small, turn_lands, turn_choice, Writing, writing_none, writing_room, writing_stops, writing_more, writing_all}
-use borrow.Author.Rules.{rules}
+use Rattle.planner_text.proofs.Writings.{turn_small, turn_lands, turn_choice, writing_none, writing_room, writing_stops, writing_more, writing_all}
 use Rattle.planner_text.proofs.write_text.Goals as goal
 
 pub list_wants-requires : goal.list_wants-requires

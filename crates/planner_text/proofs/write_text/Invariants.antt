@@ -2,14 +2,10 @@
 -- stand in front of at.
 -- Assumes nothing.
 use mathlib.Core.Path.{◌≡◌}
-use Prim.Native.Nat.{ℕ, ◌-◌}
-use native.Mathlib.Omega.{arith}
-use lib.ListN.{length, length-replicate}
+use Prim.Native.Nat.{◌-◌}
+use lib.ListN.{length}
 use Rattle.planner_rows.specs.Rows.{RowsRight}
-use Rattle.planner_settings.proofs.PathMarks.{no_marks}
-use Rattle.planner_settings.proofs.SettingWalk.{planned_targets}
-use Rattle.planner_text.proofs.Writings.{turn_small, turn_lands, turn_choice, Writing, writing_none, writing_room, writing_stops, writing_more, writing_all}
-use borrow.Author.Rules.{rules}
+use Rattle.planner_text.proofs.Writings.{Writing}
 use Rattle.planner_text.proofs.write_text.Given as goal
 
 abbrev pub invariant-loop-i : goal.invariant-loop-i
