@@ -1,16 +1,14 @@
 -- `c_api::penthluk_mark` meets its contract: the numbers by the verdict.
 -- Assumes nothing.
 use Rattle.c_api.proofs.Marked.{passed_mark, refused_mark_law}
-use borrow.Author.Rules.{rules}
 use Rattle.c_api.proofs.penthluk_mark.Goals as goal
 
 pub returns-in-Pass : goal.returns-in-Pass
-returns-in-Pass c = let t = c in
-    let a = t.args in
-    let e = c.in-Pass.is in
-    passed_mark a.network.now a.plan.now t.mark-marked.result t.mark-marked.ensures _ _ e
+returns-in-Pass c =
+    let m = c.mark-marked in
+    passed_mark c.args.network.now c.args.plan.now m.result m.ensures _ _ c.in-Pass.is
 
 pub returns-in-Refused : goal.returns-in-Refused
-returns-in-Refused c = let t = c in
-    let a = t.args in
-    refused_mark_law a.network.now a.plan.now t.mark-marked.result t.mark-marked.ensures _ _ c.in-Refused.is
+returns-in-Refused c =
+    let m = c.mark-marked in
+    refused_mark_law c.args.network.now c.args.plan.now m.result m.ensures _ _ c.in-Refused.is

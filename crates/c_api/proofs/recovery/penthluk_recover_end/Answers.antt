@@ -1,7 +1,6 @@
 -- `c_api::recovery::penthluk_recover_end` meets its contract.
 -- Assumes nothing.
 use mathlib.Core.Path.{◌∙◌}
-use borrow.Author.Rules.{rules}
 use Rattle.c_api.proofs.Counted.{by_answer}
 use Rattle.recover_line.specs.Answers.{end_answer}
 use Rattle.c_api.proofs.recovery.penthluk_recover_end.Goals as goal

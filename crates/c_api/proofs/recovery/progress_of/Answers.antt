@@ -1,6 +1,5 @@
 -- `c_api::recovery::progress_of` meets its contract.
 -- Assumes nothing.
-use borrow.Author.Rules.{rules}
 use Rattle.c_api.proofs.Progressed.{state_alike}
 use Rattle.c_api.proofs.recovery.progress_of.Goals as goal
 

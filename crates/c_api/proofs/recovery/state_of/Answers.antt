@@ -1,6 +1,5 @@
 -- `c_api::recovery::state_of` meets its contract.
 -- Assumes nothing.
-use borrow.Author.Rules.{rules}
 use Rattle.c_api.proofs.Progressed.{no_state, known_state}
 use Rattle.c_api.proofs.recovery.state_of.Goals as goal
 
