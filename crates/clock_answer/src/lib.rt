@@ -34,7 +34,7 @@ fn put_operation(out: &mut [u8], at: usize, bits: &[u8]) -> usize
 // The lines of a plan text of good form, at the front of a buffer; their length.
 fn put_operations(plan: &[u8], out: &mut [u8]) -> usize
     requires has_form { HasForm plan.now }
-    requires plan_in_bounds { 2 * length plan.now + 96 ≤ length out.old }
+    requires room { 2 * length plan.now + 96 ≤ length out.old }
     ensures { Puts 0 (clock_program plan.now) out.old result out.new }
 {
     let mut next: usize = 0;

@@ -206,8 +206,8 @@ fn put_stretch(plan: &mut [u8], at: usize, state: u8, bits: &[u8], next: u8) -> 
 
 // What the clocks of these TMS and TDI bytes add to the plan's text.
 pub fn write(pen: Pen, tms: &[u8], tdi: &[u8], plan: &mut [u8]) -> Pen
-    requires state_bound { (pen.state < 16) × (length tdi.now ≡ length tms.now) × AreBits tdi.now }
-    requires tdi_in_bounds { pen.at + length (added_text (state_at pen.state) (clocks_from tms.now tdi.now)) ≤ length plan.old }
+    requires clocks { (pen.state < 16) × (length tdi.now ≡ length tms.now) × AreBits tdi.now }
+    requires room { pen.at + length (added_text (state_at pen.state) (clocks_from tms.now tdi.now)) ≤ length plan.old }
     ensures { Wrote pen.state pen.at tms.now tdi.now plan.old result.state result.at plan.new }
 {
     let mut state = pen.state;
@@ -226,8 +226,8 @@ pub fn write(pen: Pen, tms: &[u8], tdi: &[u8], plan: &mut [u8]) -> Pen
 // Both at once, into a buffer with room for every plan, which is free where the clocks are refused: each stretch is counted before
 // it is written, and what stands in the buffer is never more than what is counted.
 pub fn play(p: Progress, place: usize, tms: &[u8], tdi: &[u8], plan: &mut [u8]) -> Followed
-    requires state_bound { (p.state < 16) × (p.entries ≤ max_operations) × (p.bytes ≤ max_plan_bytes) × (length tms.now ≤ max_line_bytes) }
-    requires tdi_len { (length tdi.now ≡ length tms.now) × AreBits tdi.now × StandsBefore place p.state p.bytes × (max_plan_bytes ≤ length plan.old) }
+    requires limits { (p.state < 16) × (p.entries ≤ max_operations) × (p.bytes ≤ max_plan_bytes) × (length tms.now ≤ max_line_bytes) }
+    requires clocks_and_room { (length tdi.now ≡ length tms.now) × AreBits tdi.now × StandsBefore place p.state p.bytes × (max_plan_bytes ≤ length plan.old) }
     ensures { Played (progress_for p) place tms.now tdi.now plan.old (followed_for result) plan.new }
 {
     let mut now = p;

@@ -103,7 +103,7 @@ pub fn write_tdi(tdi: &mut [u8], at: usize, bits: &[u8]) -> usize
 // bytes, so that they start at the same place.
 fn write_lines(plan: &[u8], tms: &mut [u8], tdi: &mut [u8])
     requires has_form { HasForm plan.now }
-    requires plan_in_bounds { (length plan.now ≤ length tms.old) × (length plan.now ≤ length tdi.old) }
+    requires room { (length plan.now ≤ length tms.old) × (length plan.now ≤ length tdi.old) }
     ensures tms_after { tms.new ≡ written (row_of (λ c. c.tms) (clocks_of plan.now)) tms.old }
     ensures tdi_after { tdi.new ≡ written (row_of (λ c. c.tdi) (clocks_of plan.now)) tdi.old }
 {

@@ -10,7 +10,7 @@ use Rattle.clock_answer.proofs.print_clocks.Goals as goal
 
 pub put_operations-requires : goal.put_operations-requires
 put_operations-requires c = let g = form_good _ _ _ c.check_form-form.ensures c.in-Good.is in
-    record { has_form = (g.plan, g.reads); plan_in_bounds = omega (arith, (text_of _ _ g.reads).short) }
+    record { has_form = (g.plan, g.reads); room = omega (arith, (text_of _ _ g.reads).short) }
 
 pub returns-in-Good : goal.returns-in-Good
 returns-in-Good c = let w = printed_to _ _ (at_front _ _ refl c.put_operations.ensures) in

@@ -12,7 +12,7 @@ pub bits_at-bits-requires : goal.bits_at-bits-requires
 bits_at-bits-requires c = omega (arith, line_within _ _ _ _ _ c.loop-at.invariant c.loop-at-test.true _ refl)
 
 pub put_operation-next-requires : goal.put_operation-next-requires
-put_operation-next-requires c = omega (arith, line_fits _ _ _ _ _ c.loop-at.invariant c.loop-at-test.true _ c.bits_at-bits.ensures c.requires.plan_in_bounds)
+put_operation-next-requires c = omega (arith, line_fits _ _ _ _ _ c.loop-at.invariant c.loop-at-test.true _ c.bits_at-bits.ensures c.requires.room)
 
 pub overflow_add-at : goal.overflow_add-at
 overflow_add-at c = omega (arith, line_within _ _ _ _ _ c.loop-at.invariant c.loop-at-test.true _ c.bits_at-bits.ensures)
@@ -25,7 +25,7 @@ loop-at-smaller c = omega (arith, line_within _ _ _ _ _ c.loop-at.invariant c.lo
 
 pub loop-at-preserved : goal.loop-at-preserved
 loop-at-preserved c = let wrote = c.put_operation-next in
-    clocked_line _ _ _ _ _ c.loop-at.invariant c.loop-at-test.true _ c.bits_at-bits.ensures c.requires.plan_in_bounds _ _ _ wrote.ensures wrote.auto.out refl
+    clocked_line _ _ _ _ _ c.loop-at.invariant c.loop-at-test.true _ c.bits_at-bits.ensures c.requires.room _ _ _ wrote.ensures wrote.auto.out refl
 
 pub shape_of-out : goal.shape_of-out
 shape_of-out c = c.loop-at.invariant.kept

@@ -8,8 +8,8 @@ use Rattle.clock_follower.proofs.Playing.{played_start, played_end, played_stop,
 use Rattle.clock_follower.proofs.play.Goals as goal
 
 pub loop-i-init : goal.loop-i-init
-loop-i-init c = let s = c.requires.state_bound in
-    played_start (progress_for c.args.p) _ _ _ _ s.0 (record { few = s.1; short = s.2 }) c.requires.tdi_len.2
+loop-i-init c = let s = c.requires.limits in
+    played_start (progress_for c.args.p) _ _ _ _ s.0 (record { few = s.1; short = s.2 }) c.requires.clocks_and_room.2
 
 pub stretch_end-end-requires : goal.stretch_end-end-requires
 stretch_end-end-requires c = c.loop-i-test.true
@@ -28,13 +28,13 @@ overflow_sub-end-in-loop-i c = omega (arith, c.stretch_end-end.ensures.some_cloc
 
 pub passed-then-requires : goal.passed-then-requires
 passed-then-requires c = let l = c.loop-i.invariant.limits in
-    (l.few, l.short, omega (arith, c.stretch_end-end.ensures.within, c.requires.state_bound.3))
+    (l.few, l.short, omega (arith, c.stretch_end-end.ensures.within, c.requires.limits.3))
 
 pub shape_of-plan-in-Offends : goal.shape_of-plan-in-Offends
 shape_of-plan-in-Offends c = c.loop-i.invariant.written.size
 
 pub returns-in-Offends : goal.returns-in-Offends
-returns-in-Offends c = let p = c.requires.tdi_len in
+returns-in-Offends c = let p = c.requires.clocks_and_room in
     played_stop (progress_for c.args.p) _ _ _ _ _ (progress_for c.loop-i.now) _ _ c.loop-i.invariant p.0 p.1 _ _ c.stretch_end-end.ensures c.next_state-next.ensures
     (sym (ap followed_for c.in-Offends.is) ∙ c.passed-then.ensures)
 
@@ -45,10 +45,10 @@ pub slice_bounds-put_stretch-start : goal.slice_bounds-put_stretch-start
 slice_bounds-put_stretch-start c = omega (arith, c.stretch_end-end.ensures.some_clock)
 
 pub slice_bounds-put_stretch-end : goal.slice_bounds-put_stretch-end
-slice_bounds-put_stretch-end c = omega (arith, c.stretch_end-end.ensures.within, c.requires.tdi_len.0)
+slice_bounds-put_stretch-end c = omega (arith, c.stretch_end-end.ensures.within, c.requires.clocks_and_room.0)
 
 pub put_stretch-at-requires : goal.put_stretch-at-requires
-put_stretch-at-requires c = let p = c.requires.tdi_len in
+put_stretch-at-requires c = let p = c.requires.clocks_and_room in
     played_fits (progress_for c.args.p) _ _ _ _ _ (progress_for c.loop-i.now) _ _ c.loop-i.invariant p.0 p.1 _ _ c.stretch_end-end.ensures c.next_state-next.ensures
     (progress_for c.in-To.q) (sym (ap followed_for c.in-To.is) ∙ c.passed-then.ensures) p.3
 
@@ -57,7 +57,7 @@ loop-i-smaller c = let e = c.stretch_end-end.ensures in
     omega (arith, e.some_clock, e.within)
 
 pub loop-i-preserved : goal.loop-i-preserved
-loop-i-preserved c = let p = c.requires.tdi_len in
+loop-i-preserved c = let p = c.requires.clocks_and_room in
     let w = c.put_stretch-at.ensures in
     played_on (progress_for c.args.p) _ _ _ _ _ (progress_for c.loop-i.now) _ _ c.loop-i.invariant p.0 p.1 _ _ c.stretch_end-end.ensures c.next_state-next.ensures
     (progress_for c.in-To.q) (sym (ap followed_for c.in-To.is) ∙ c.passed-then.ensures) p.3 _ _ (w.value, w.plan_after)

@@ -6,7 +6,7 @@ use Rattle.clock_follower.proofs.Stretches.{written_start, written_end, stretch_
 use Rattle.clock_follower.proofs.write.Goals as goal
 
 pub loop-i-init : goal.loop-i-init
-loop-i-init c = written_start _ _ _ _ _ c.requires.state_bound.0
+loop-i-init c = written_start _ _ _ _ _ c.requires.clocks.0
 
 pub stretch_end-end-requires : goal.stretch_end-end-requires
 stretch_end-end-requires c = c.loop-i-test.true
@@ -27,11 +27,11 @@ pub slice_bounds-put_stretch-start : goal.slice_bounds-put_stretch-start
 slice_bounds-put_stretch-start c = omega (arith, c.stretch_end-end.ensures.some_clock)
 
 pub slice_bounds-put_stretch-end : goal.slice_bounds-put_stretch-end
-slice_bounds-put_stretch-end c = omega (arith, c.stretch_end-end.ensures.within, c.requires.state_bound.1)
+slice_bounds-put_stretch-end c = omega (arith, c.stretch_end-end.ensures.within, c.requires.clocks.1)
 
 pub put_stretch-at-requires : goal.put_stretch-at-requires
 put_stretch-at-requires c = let p = c.requires in
-    stretch_fits _ _ _ _ _ _ _ _ _ c.loop-i.invariant p.state_bound.1 p.state_bound.2 _ _ c.stretch_end-end.ensures c.next_state-next.ensures p.tdi_in_bounds
+    stretch_fits _ _ _ _ _ _ _ _ _ c.loop-i.invariant p.clocks.1 p.clocks.2 _ _ c.stretch_end-end.ensures c.next_state-next.ensures p.room
 
 pub loop-i-smaller : goal.loop-i-smaller
 loop-i-smaller c = let e = c.stretch_end-end.ensures in omega (arith, e.some_clock, e.within)
@@ -41,8 +41,8 @@ loop-i-preserved c = let p = c.requires in
     let e = c.stretch_end-end.ensures in
     let n = c.next_state-next.ensures in
     let w = c.put_stretch-at.ensures in
-    let room = stretch_fits _ _ _ _ _ _ _ _ _ c.loop-i.invariant p.state_bound.1 p.state_bound.2 _ _ e n p.tdi_in_bounds in
-    written_on _ _ _ _ _ _ _ _ _ c.loop-i.invariant p.state_bound.1 p.state_bound.2 _ _ e n room _ _ (w.value, w.plan_after)
+    let room = stretch_fits _ _ _ _ _ _ _ _ _ c.loop-i.invariant p.clocks.1 p.clocks.2 _ _ e n p.room in
+    written_on _ _ _ _ _ _ _ _ _ c.loop-i.invariant p.clocks.1 p.clocks.2 _ _ e n room _ _ (w.value, w.plan_after)
 
 pub shape_of-plan : goal.shape_of-plan
 shape_of-plan c = c.loop-i.invariant.size

@@ -14,7 +14,7 @@ returns-then-tdi-n c = let g = form_good _ _ _ c.check_form-form.ensures c.in-Go
 
 pub write_lines-requires : goal.write_lines-requires
 write_lines-requires c = let g = form_good _ _ _ c.check_form-form.ensures c.in-Good.is in
-    record { has_form = (g.plan, g.reads); plan_in_bounds = (c.if-tms-n.false, c.if-tdi-n.false) }
+    record { has_form = (g.plan, g.reads); room = (c.if-tms-n.false, c.if-tdi-n.false) }
 
 pub returns-in-Refused : goal.returns-in-Refused
 returns-in-Refused c = bad_form _ _ _ _ (form_refused _ _ _ c.check_form-form.ensures c.in-Refused.is)

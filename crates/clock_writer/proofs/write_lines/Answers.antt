@@ -13,12 +13,12 @@ bits_at-bits-requires c = omega (arith, line_within _ _ _ _ _ _ c.loop-at.invari
 
 pub write_tms-requires : goal.write_tms-requires
 write_tms-requires c =
-    let kept = written_kept _ _ _ _ _ _ c.loop-at.invariant c.requires.plan_in_bounds.0 c.requires.plan_in_bounds.1 in
+    let kept = written_kept _ _ _ _ _ _ c.loop-at.invariant c.requires.room.0 c.requires.room.1 in
     omega (arith, kept.0, line_within _ _ _ _ _ _ c.loop-at.invariant c.loop-at-test.true _ c.bits_at-bits.ensures)
 
 pub write_tdi-at-requires : goal.write_tdi-at-requires
 write_tdi-at-requires c =
-    let kept = written_kept _ _ _ _ _ _ c.loop-at.invariant c.requires.plan_in_bounds.0 c.requires.plan_in_bounds.1 in
+    let kept = written_kept _ _ _ _ _ _ c.loop-at.invariant c.requires.room.0 c.requires.room.1 in
     omega (arith, kept.1, line_within _ _ _ _ _ _ c.loop-at.invariant c.loop-at-test.true _ c.bits_at-bits.ensures)
 
 pub loop-at-smaller : goal.loop-at-smaller
@@ -26,15 +26,15 @@ loop-at-smaller c =
     omega (arith, c.write_tdi-at.ensures.value, line_within _ _ _ _ _ _ c.loop-at.invariant c.loop-at-test.true _ c.bits_at-bits.ensures)
 
 pub loop-at-preserved : goal.loop-at-preserved
-loop-at-preserved c = let p = c.requires.plan_in_bounds in
+loop-at-preserved c = let p = c.requires.room in
     written_line _ _ _ _ _ _ c.loop-at.invariant c.loop-at-test.true _ c.bits_at-bits.ensures p.0 p.1 _ _ _
     c.write_tms.ensures.tms_after c.write_tdi-at.ensures.tdi_after c.write_tdi-at.ensures.value
 
 pub shape_of-tms : goal.shape_of-tms
-shape_of-tms c = (written_kept _ _ _ _ _ _ c.loop-at.invariant c.requires.plan_in_bounds.0 c.requires.plan_in_bounds.1).0
+shape_of-tms c = (written_kept _ _ _ _ _ _ c.loop-at.invariant c.requires.room.0 c.requires.room.1).0
 
 pub shape_of-tdi : goal.shape_of-tdi
-shape_of-tdi c = (written_kept _ _ _ _ _ _ c.loop-at.invariant c.requires.plan_in_bounds.0 c.requires.plan_in_bounds.1).1
+shape_of-tdi c = (written_kept _ _ _ _ _ _ c.loop-at.invariant c.requires.room.0 c.requires.room.1).1
 
 pub returns : goal.returns
 returns c = let all = written_all _ _ _ _ _ _ c.loop-at.invariant c.loop-at-test.false in

@@ -15,7 +15,7 @@ tdi_of-requires c = (its_clocks _ _ _ _ c.requires).length_is
 
 pub write-requires : goal.write-requires
 write-requires c = let r = put_ready _ _ _ _ c.requires _ _ c.tms_of.ensures c.tdi_of.ensures in
-    record { state_bound = r.0; tdi_in_bounds = r.1 }
+    record { clocks = r.0; room = r.1 }
 
 pub returns : goal.returns
 returns c = put_done _ _ _ _ c.requires _ _ c.tms_of.ensures c.tdi_of.ensures _ _ _ c.write.ensures

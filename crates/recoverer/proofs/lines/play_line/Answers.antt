@@ -41,8 +41,8 @@ play-played-requires c = let a = c.args in
     let t = tested (progress_for a.p) (sym c.can_go_on.ensures ∙ c.if-not-can_go_on.false) in
     let h = counted_clocks _ _ c.requires.0 c.if-clocks-eq0.false in
     record {
-      state_bound = (omega (arith, t.high), t.few, t.short, omega (arith, ap length c.tms_of.ensures, length-take a.clocks (drop 4 a.line.now), h.short, h.length_is));
-      tdi_len = (
+      limits = (omega (arith, t.high), t.few, t.short, omega (arith, ap length c.tms_of.ensures, length-take a.clocks (drop 4 a.line.now), h.short, h.length_is));
+      clocks_and_room = (
         rows_as_long _ _ h _ _ c.tms_of.ensures c.tdi_of.ensures,
         row_of_bits _ _ h _ _ c.tms_of.ensures c.tdi_of.ensures,
         omega (arith, c.bytes_written-at.ensures, t.counted),
