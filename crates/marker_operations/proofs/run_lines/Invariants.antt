@@ -1,8 +1,7 @@
 -- `marker_operations::run_lines` meets its contract. The invariant is the law `Going`; the measure is what is left of the text.
 -- Assumes nothing.
 use mathlib.Core.Path.{◌≡◌}
-use Prim.Native.Nat.{suc, ◌+◌, ◌-◌, ◌≤◌}
-use native.Mathlib.Omega.{arith}
+use Prim.Native.Nat.{◌-◌}
 use lib.ListN.{length}
 use Rattle.model.specs.Result.{ok}
 use Rattle.model.specs.Network.{Network}
@@ -10,8 +9,7 @@ use Rattle.model.specs.Plan.{Plan}
 use Rattle.model.specs.PlanText.{read_plan}
 use Rattle.model.specs.Mark.{run_from}
 use Rattle.marker_operations.specs.Operations.{config_at, state, path_at, OnPath}
-use Rattle.marker_operations.proofs.Running.{Going, going_start, going_end, going_room, going_further, going_wrong_length, going_stop, going_next}
-use borrow.Author.Rules.{rules}
+use Rattle.marker_operations.proofs.Running.{Going}
 use Rattle.marker_operations.proofs.run_lines.Given as goal
 
 abbrev pub invariant-loop-at : goal.invariant-loop-at
