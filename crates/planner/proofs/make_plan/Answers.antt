@@ -1,7 +1,6 @@
 -- `planner::make_plan` meets its contract.
 -- Assumes nothing.
 use mathlib.Core.Path.{refl}
-use borrow.Author.Rules.{rules}
 use Rattle.network_reader.proofs.ReadingNetwork.{ends_refused}
 use Rattle.network_reader.proofs.Records.{filled_recorded}
 use Rattle.planner.proofs.Calling.{network_refused, too_many, too_short, searched}

@@ -7,7 +7,6 @@ use lib.Pow.{pow_pos}
 use Rattle.planner_settings.proofs.SettingWalk.{planned_listed}
 use Rattle.planner.proofs.Records.{record_steered}
 use Rattle.planner.proofs.Planning.{rows_none, plans_empty, prepared, search_asks, finds_none, has_text, finds_plan}
-use borrow.Author.Rules.{rules}
 use Rattle.planner.proofs.plan_network.Goals as goal
 
 pub returns-then-summary-eq0 : goal.returns-then-summary-eq0
