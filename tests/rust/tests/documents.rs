@@ -143,9 +143,9 @@ fn specs_import_no_proofs() {
         for file in files {
             let text = fs::read_to_string(&file).expect("a file of specs");
             // The library's own words on options and lists stand below Rattle.std.proofs.
-            let imports = text
-                .lines()
-                .filter(|line| line.starts_with("use Rattle") && !line.starts_with("use Rattle.std."));
+            let imports = text.lines().filter(|line| {
+                line.starts_with("use Rattle") && !line.starts_with("use Rattle.std.")
+            });
             let mut bad = imports.filter(|line| line.contains(".proofs."));
             assert_eq!(bad.next(), None, "{}", file.display());
         }
