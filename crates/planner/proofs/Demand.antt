@@ -18,7 +18,7 @@ use Rattle.marker_targets.specs.Answers.{gots_of}
 use Rattle.planner_text.specs.declared.Planned.{Planned}
 use Rattle.planner_text.specs.declared.Planned.TheVariants.{Written, Refused}
 use Rattle.planner_text.specs.Writing.{planned_answer}
-use Rattle.planner.specs.Demand.{BuffersKept, EndsListed, PlanWritten, Outcome, no_plan_law, a_plan, PlansExactly, RefusesOnlyShort}
+use Rattle.planner.specs.Demand.{BuffersKept, EndsListed, PlanWritten, Outcome, no_plan, a_plan, PlansExactly, RefusesOnlyShort}
 
 -- ---- demand 1
 
@@ -66,7 +66,7 @@ plans_exactly n net search plan a search' plan' made accepted few enough room = 
     by (Written count) e = a_plan count e (written count (exact.otherwise count (sym made.result ∙ ap planned_answer e)))
     by (Refused number place) e =
         let x = exact.only_11 number place (sym made.result ∙ ap planned_answer e) in
-        no_plan_law (e ∙ ap (λ (k : ℕ). Refused k place) x.0 ∙ ap (Refused 11) x.1)
+        no_plan (e ∙ ap (λ (k : ℕ). Refused k place) x.0 ∙ ap (Refused 11) x.1)
 
 pub refuses_only_short : RefusesOnlyShort
 refuses_only_short n search plan a search' plan' made = record {

@@ -52,7 +52,7 @@ pub record PlanWritten (n : Bytes) (net : Network) (text : Bytes) : Type 0 where
 
 -- the two answers with the full sizes lent
 pub data Outcome (n : Bytes) (net : Network) (a : Planned) (plan' : List ℕ) : Type 0 where
-  no_plan_law : a ≡ Refused refusal.no_plan 0 → Outcome n net a plan'
+  no_plan : a ≡ Refused refusal.no_plan 0 → Outcome n net a plan'
   a_plan : (count : ℕ) → a ≡ Written count → PlanWritten n net (take count plan') → Outcome n net a plan'
 
 -- "With document 01's buffer sizes lent and at most 6 steering bits, the planner refuses with 11 exactly when no valid plan of
