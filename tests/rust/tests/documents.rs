@@ -126,7 +126,10 @@ fn every_crate_in_its_documents() {
     let architecture = read("docs/ARCHITECTURE.md");
     for path in entries(&top().join("crates")) {
         let name = path.file_name().and_then(|name| name.to_str()).expect("a name").to_string();
-        assert!(listing.lines().any(|line| line.starts_with(&format!("{name}:"))), "{name}");
+        let named = |line: &str| {
+            line.starts_with(&format!("{name}:")) || line.starts_with(&format!("{name} staticlib:"))
+        };
+        assert!(listing.lines().any(named), "{name}");
         assert!(
             readme.contains(&format!("`{name}`")) || readme.contains(&format!("crates/{name}")),
             "{name}"
