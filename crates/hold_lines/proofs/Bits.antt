@@ -91,7 +91,7 @@ unknown_bytes len w =
 
 pub puts_unknown : (len w known at r : ℕ) (old new : List ℕ) → known ≡ 0 → r ≡ at + len → new ≡ write_at at (replicate len 88) old
     → Puts at (map trit_byte (reverse (trits_of len w known))) old r new
-puts_unknown len w known at r old new none-known p e =
+puts_unknown len w known at r old new none_known p e =
     let all : replicate len 88 ≡ map trit_byte (reverse (trits_of len w known)) =
-    sym (unknown_bytes len w) ∙ ap (λ (k : ℕ). map trit_byte (reverse (trits_of len w k))) (sym none-known) in
+    sym (unknown_bytes len w) ∙ ap (λ (k : ℕ). map trit_byte (reverse (trits_of len w k))) (sym none_known) in
     record { behind = omega (arith, p, length-replicate {A = ℕ} len 88, ap length all); holds = e ∙ ap (λ (l : Bytes). write_at at l old) all }

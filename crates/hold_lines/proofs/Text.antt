@@ -42,15 +42,15 @@ line_length s ts =
     omega (arith, bits_length ts, length-append (number s) (9 ∷ map trit_byte (reverse ts) ++ 10 ∷ []), length-append (map trit_byte (reverse ts)) (10 ∷ []))
 
 -- its parts, each written behind the one before it
-pub puts_line : {at number_at number-end start end r : ℕ} {old a b c d new : List ℕ} (s : ℕ) (ts : List Trit) → at + (7 + length (number s) + length ts) ≤ length old
-    → (number_at ≡ at + 5) × (a ≡ write_at at (bytes "hold\t") old) → (number-end ≡ number_at + length (number s)) × (b ≡ write_at number_at (number s) a)
-    → (start ≡ number-end + 1) × (c ≡ write_at number-end (9 ∷ []) b) → Puts start (map trit_byte (reverse ts)) c end d → (r ≡ end + 1) × (new ≡ write_at end (10 ∷ []) d)
+pub puts_line : {at number_at number_end start end r : ℕ} {old a b c d new : List ℕ} (s : ℕ) (ts : List Trit) → at + (7 + length (number s) + length ts) ≤ length old
+    → (number_at ≡ at + 5) × (a ≡ write_at at (bytes "hold\t") old) → (number_end ≡ number_at + length (number s)) × (b ≡ write_at number_at (number s) a)
+    → (start ≡ number_end + 1) × (c ≡ write_at number_end (9 ∷ []) b) → Puts start (map trit_byte (reverse ts)) c end d → (r ≡ end + 1) × (new ≡ write_at end (10 ∷ []) d)
     → Puts at (hold_line s ts) old r new
 unfolding fields_of
-puts_line {at} {number_at} {number-end} {start} {end} {r} {old} {a} {b} {c} {d} {new} s ts room e f g h k =
+puts_line {at} {number_at} {number_end} {start} {end} {r} {old} {a} {b} {c} {d} {new} s ts room e f g h k =
     let word : Puts at (bytes "hold\t") old number_at a = record { behind = e.0; holds = e.1 } in
-    let digits : Puts number_at (number s) a number-end b = record { behind = f.0; holds = f.1 } in
-    let parted : Puts number-end (9 ∷ []) b start c = record { behind = g.0; holds = g.1 } in
+    let digits : Puts number_at (number s) a number_end b = record { behind = f.0; holds = f.1 } in
+    let parted : Puts number_end (9 ∷ []) b start c = record { behind = g.0; holds = g.1 } in
     let ended : Puts end (10 ∷ []) d r new = record { behind = k.0; holds = k.1 } in
     let whole = puts_more (puts_more (puts_more (puts_more word digits (omega arith)) parted (omega arith)) h (omega arith)) ended (omega (arith, h.behind, bits_length ts)) in
     rw (line_parts (number s) (map trit_byte (reverse ts))) at whole
