@@ -6,7 +6,7 @@ pub mod recovery;
 
 ghost use Rattle.std.specs.Prelude.{◌≡◌};
 ghost use Rattle.model.specs.Calls.{write_clocks, make_plan};
-ghost use Rattle.model.specs.Mark.{mark as markOfTexts};
+ghost use Rattle.model.specs.Mark.{mark as mark_of_texts};
 ghost use Rattle.model.specs.NetworkText.{read_network};
 ghost use Rattle.c_api.specs.Numbers.{read_numbers, mark_numbers, count_numbers};
 
@@ -46,7 +46,7 @@ pub extern "C" fn penthluk_read(text: &[u8], answer: &mut [usize; 5])
 // each as target, operation and place; or a refusal's number and place. Zeros stand behind.
 #[unsafe(no_mangle)]
 pub extern "C" fn penthluk_mark(network: &[u8], plan: &[u8], answer: &mut [usize; 16])
-    ensures { answer.new ≡ mark_numbers (markOfTexts network.now plan.now) }
+    ensures { answer.new ≡ mark_numbers (mark_of_texts network.now plan.now) }
 {
     let marked = mark(network, plan);
     let verdict = marked.verdict;
