@@ -7,4 +7,4 @@ use Rattle.planner_table.proofs.slots.next_setting.Goals as goal
 pub loop-x-preserved : goal.loop-x-preserved
 loop-x-preserved c = let a = c.args in
     let l = c.loop-x in
-    skipped_one a.table.now a.at a.from a.end l.x (omega arith) l.invariant c.if-table-at-ne0.false
+    skipped_one a.table.now a.at a.from a.end l.x (omega arith) l.invariant (omega arith)
