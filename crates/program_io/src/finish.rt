@@ -1,15 +1,19 @@
 // The end of a program, with its status on descriptor 3 where it is asked to report one.
-use crate::errors::{EBADF, number};
+use crate::errors::{EBADF, EPIPE, number};
 use crate::message::{say_error, say_unread};
 use crate::output::{put_answer, put_no_answer};
 use crate::status::{ANSWERED, REFUSED};
 use crate::write::{Wrote, write_whole};
-use std::fs::{OpenOptions, symlink_metadata};
+use std::fs::{OpenOptions, metadata, symlink_metadata};
+use std::os::unix::fs::FileTypeExt;
 
 const STATUS_FILENO: i32 = 3;
 
 // The name of the same descriptor.
 const STATUS_PATH: &str = "/proc/self/fd/3";
+
+// How often the status is tried to write to a pipe or a socket.
+const STATUS_TRIES: usize = 1_000;
 
 // Whether the descriptor is open for writing, which its name tells.
 fn takes_status(rt: &HostRuntime) -> bool {
@@ -21,22 +25,46 @@ fn takes_status(rt: &HostRuntime) -> bool {
 
 // By the descriptor's name.
 fn write_by_name(rt: &HostRuntime, digit: &[u8; 1]) -> Wrote {
-    if !takes_status(rt) {
-        return Wrote::Failed(EBADF);
-    }
     match OpenOptions::new().append(true).open(rt, STATUS_PATH) {
         Ok(mut file) => write_whole(&mut file, digit),
         Err(error) => Wrote::Failed(number(error)),
     }
 }
 
-// By the descriptor's number, and where that fails once more by its name: the first try tells no errno, so it may only have been
-// interrupted.
+// Whether the descriptor is a pipe or a socket. Opened by its name it would be another one, at which a program could wait for ever.
+fn is_stream(rt: &HostRuntime) -> bool {
+    match metadata(rt, STATUS_PATH) {
+        Ok(it) => {
+            let kind = it.file_type();
+            kind.is_fifo() || kind.is_socket()
+        }
+        Err(_) => false,
+    }
+}
+
+// By the descriptor's number once more, as a try may only have been interrupted.
+fn write_again(digit: &[u8; 1]) -> Wrote {
+    for _ in 0..STATUS_TRIES {
+        if io::write_all(STATUS_FILENO, digit) {
+            return Wrote::Whole;
+        }
+    }
+    Wrote::Failed(EPIPE)
+}
+
+// By the descriptor's number. Where that fails it tells no errno, so the status is written by name, or again where it goes to a pipe
+// or a socket.
 fn write_digit(rt: &HostRuntime, digit: &[u8; 1]) -> Wrote {
     if io::write_all(STATUS_FILENO, digit) {
         return Wrote::Whole;
     }
-    write_by_name(rt, digit)
+    if takes_status(rt) {
+        if is_stream(rt) {
+            return write_again(digit);
+        }
+        return write_by_name(rt, digit);
+    }
+    Wrote::Failed(EBADF)
 }
 
 fn write_status(rt: &HostRuntime, status: u8) -> Wrote {
