@@ -1,5 +1,4 @@
 -- Laws of the answers as numbers.
-pub mod Answers
+pub mod Read
 pub mod Marked
-pub mod Counted
 pub mod Progressed

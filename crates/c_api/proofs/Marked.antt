@@ -1,70 +1,71 @@
--- What a mark's numbers are, by its verdict: the rows and the zeros behind them are the columns' entries in turn.
+-- What a pass's numbers are: the rows, of which those behind the count are zeros.
 -- Assumes nothing.
-use mathlib.Core.Path.{◌≡◌, refl, sym, ap, ◌∙◌, subst}
-use mathlib.Core.List.{List, [], ◌∷◌, ◌++◌}
-use Prim.Native.Nat.{ℕ, zero, suc, ◌+◌, ◌*◌, ◌-◌, ◌≤◌}
+use mathlib.Core.Path.{◌≡◌, refl, sym, ap, ◌∙◌}
+use mathlib.Core.List.{List, [], ◌∷◌, ◌++◌, map}
+use Prim.Native.Nat.{ℕ, zero, suc, ◌*◌, ◌-◌, ◌≤◌}
 use native.Mathlib.Omega.{arith}
-use native.Mathlib.Nat.{zero-add, suc-add}
-use lib.ListN.{length, replicate}
+use lib.ListN.{length, get_or, replicate, take, length-map}
+use lib.Seq.{length-take-le}
+use Rattle.std.specs.Prelude.{Ok}
 use Rattle.model.specs.Text.{Bytes}
-use Rattle.model.specs.Network.{tabulate}
-use Rattle.model.specs.Mark.{Got, mark}
-use Rattle.model.proofs.Lists.{length_tabulate}
-use Rattle.marker_targets.specs.declared.Verdict.{Verdict}
-use Rattle.marker_targets.specs.declared.Verdict.TheVariants.{Pass as Passed, Refused}
-use Rattle.marker_targets.specs.declared.Gots.{Gots}
-use Rattle.marker_targets.specs.declared.Mark.{Mark}
-use Rattle.marker_targets.specs.Answers.{got_row, gots_of, verdict_of, ZerosBehind, RowsFor}
+use Rattle.model.specs.Mark.{mark}
+use Rattle.marker_targets.specs.declared.Got.{Got}
+use Rattle.marker_targets.specs.declared.Pass.{Pass}
+use Rattle.marker_targets.specs.Answers.{got_of, gots_of, no_got, ZerosBehind}
 use Rattle.marker.specs.Marks.{MarkReturned}
 use Rattle.c_api.specs.Numbers.{got_numbers, padded, mark_numbers}
 
-abbrev no_row : Got
-no_row = record { target_number = 0; operation = 0; at_place = 0 }
+zero_rows : (xs : List Got) → ((i : ℕ) → get_or xs i no_got ≡ no_got) → replicate (3 * length xs) 0 ≡ got_numbers (map got_of xs)
+zero_rows [] e = refl
+zero_rows (x ∷ xs) e =
+    let n : 3 * suc (length xs) ≡ suc (suc (suc (3 * length xs))) = omega arith in
+    let here : x ≡ no_got = e 0 in
+    rw (n, here, zero_rows xs (λ i. e (suc i)))
 
-module _ (f : ℕ → Got) where
-  zero_rows : (i more : ℕ) → ((x : ℕ) → i ≤ x → f x ≡ no_row) → replicate (3 * more) 0 ≡ got_numbers (tabulate f i more)
-  zero_rows i zero e = refl
-  zero_rows i (suc more) e =
-      let n : 3 * suc more ≡ suc (suc (suc (3 * more))) = omega arith in
-      rw (n, e i (omega arith), zero_rows (suc i) more (λ x l. e x (omega arith)))
+rows_and_zeros : (count : ℕ) (xs : List Got) → count ≤ length xs → ((i : ℕ) → count ≤ i → get_or xs i no_got ≡ no_got)
+    → got_numbers (map got_of (take count xs)) ++ replicate (3 * (length xs - count)) 0 ≡ got_numbers (map got_of xs)
+rows_and_zeros zero xs h e =
+    let n : length xs - 0 ≡ length xs = omega arith in
+    rw n (zero_rows xs (λ i. e i (omega arith)))
+rows_and_zeros (suc count) [] h e = absurd (omega arith)
+rows_and_zeros (suc count) (x ∷ xs) h e =
+    let n : suc (length xs) - suc count ≡ length xs - count = omega arith in
+    rw (n, rows_and_zeros count xs (omega arith) (λ i l. e (suc i) (omega arith)))
 
-  rows_and_zeros : (i count more : ℕ) → ((x : ℕ) → i + count ≤ x → f x ≡ no_row)
-      → got_numbers (tabulate f i count) ++ replicate (3 * more) 0 ≡ got_numbers (tabulate f i (count + more))
-  rows_and_zeros i zero more e = zero_rows i more (λ x l. e x (omega arith)) ∙ ap (λ (n : ℕ). got_numbers (tabulate f i n)) (sym (zero-add more))
-  rows_and_zeros i (suc count) more e =
-      rw (suc-add count more, rows_and_zeros (suc i) count more (λ x l. e x (omega arith)))
+numbers_long : (xs : List Got) → length (got_numbers (map got_of xs)) ≡ 3 * length xs
+numbers_long [] = refl
+numbers_long (x ∷ xs) = let n = numbers_long xs in omega (arith, n)
 
-  numbers_long : (i count : ℕ) → length (got_numbers (tabulate f i count)) ≡ 3 * count
-  numbers_long i zero = refl
-  numbers_long i (suc count) = let n = numbers_long (suc i) count in omega (arith, n)
+-- row i, before the numbers behind it
+abbrev row : List Got → ℕ → List ℕ → List ℕ
+row xs i behind = (get_or xs i no_got).target ∷ (get_or xs i no_got).operation ∷ (get_or xs i no_got).place ∷ behind
 
--- the numbers of a pass with these columns
-module _ (operations clocks : ℕ) (g : Gots) (b : ZerosBehind g) where
-  abbrev rows : List ℕ
-  rows = got_numbers (gots_of g)
+four_rows : (xs : List Got) → length xs ≡ 4 → row xs 0 (row xs 1 (row xs 2 (row xs 3 []))) ≡ got_numbers (map got_of xs)
+four_rows [] e = absurd (omega arith)
+four_rows (a ∷ []) e = absurd (omega arith)
+four_rows (a ∷ b ∷ []) e = absurd (omega arith)
+four_rows (a ∷ b ∷ c ∷ []) e = absurd (omega arith)
+four_rows (a ∷ b ∷ c ∷ d ∷ []) e = refl
+four_rows (a ∷ b ∷ c ∷ d ∷ x ∷ xs) e = absurd (omega arith)
 
-  abbrev behind : List ℕ → List ℕ
-  behind l = 0 ∷ operations ∷ clocks ∷ g.count ∷ l
+module _ (n p : Bytes) (pass : Pass) (is : MarkReturned n p (Ok pass)) where
+  abbrev rows : List Got
+  rows = pass.gots.rows
 
-  columns : got_numbers (tabulate (got_row g) 0 4) ≡ rows ++ replicate (16 - suc (suc (suc (suc (length rows))))) 0
-  columns =
-      let all : g.count + (4 - g.count) ≡ 4 = omega (arith, b.few) in
-      let left : 16 - suc (suc (suc (suc (length rows)))) ≡ 3 * (4 - g.count) = omega (arith, numbers_long (got_row g) 0 g.count, b.few) in
-      ap (λ (n : ℕ). got_numbers (tabulate (got_row g) 0 n)) (sym all)
-      ∙ sym (rows_and_zeros (got_row g) 0 g.count (4 - g.count) (λ x l. b.zeros x (omega arith)))
-      ∙ ap (λ (n : ℕ). rows ++ replicate n 0) (sym left)
+  abbrev numbers : List ℕ
+  numbers = got_numbers (gots_of pass.gots)
 
-  passed_columns : behind (got_numbers (tabulate (got_row g) 0 4)) ≡ padded 16 (0 ∷ operations ∷ clocks ∷ length (gots_of g) ∷ rows)
-  passed_columns = rw (length_tabulate (got_row g) 0 g.count) (ap behind columns)
+  behind : ZerosBehind pass.gots
+  behind = is.rows
 
-module _ (n p : Bytes) (m : Mark) (is : MarkReturned n p m) where
-  by_verdict : (v : Verdict) → m.verdict ≡ v → mark_numbers (verdict_of v (gots_of m.gots)) ≡ mark_numbers (mark n p)
-  by_verdict v e = ap mark_numbers (ap (λ (x : Verdict). verdict_of x (gots_of m.gots)) (sym e) ∙ is.result)
+  as_many : length (gots_of pass.gots) ≡ pass.gots.count
+  as_many = length-map (take pass.gots.count rows) got_of ∙ length-take-le pass.gots.count rows (omega (arith, behind.few, behind.size))
 
-  pub refused_mark_law : (number place : ℕ) → m.verdict ≡ Refused number place → padded 16 (number ∷ place ∷ []) ≡ mark_numbers (mark n p)
-  refused_mark_law number place e = by_verdict (Refused number place) e
+  all_rows : row rows 0 (row rows 1 (row rows 2 (row rows 3 []))) ≡ numbers ++ replicate (16 - suc (suc (suc (suc (length numbers))))) 0
+  all_rows =
+      let left : 16 - suc (suc (suc (suc (length numbers)))) ≡ 3 * (length rows - pass.gots.count) =
+      omega (arith, numbers_long (take pass.gots.count rows), length-take-le pass.gots.count rows (omega (arith, behind.few, behind.size)), behind.few, behind.size) in
+      rw left (four_rows rows behind.size ∙ sym (rows_and_zeros pass.gots.count rows (omega (arith, behind.few, behind.size)) behind.zeros))
 
-  pub passed_mark : (operations clocks : ℕ) → m.verdict ≡ Passed operations clocks
-      → 0 ∷ operations ∷ clocks ∷ m.gots.count ∷ got_numbers (tabulate (got_row m.gots) 0 4) ≡ mark_numbers (mark n p)
-  passed_mark operations clocks e =
-      passed_columns operations clocks m.gots (subst (λ (v : Verdict). RowsFor v m.gots) e is.rows) ∙ by_verdict (Passed operations clocks) e
+  pub passed_mark : 0 ∷ pass.operations ∷ pass.clocks ∷ pass.gots.count ∷ row rows 0 (row rows 1 (row rows 2 (row rows 3 []))) ≡ mark_numbers (mark n p)
+  passed_mark = rw (← is.result, as_many) (ap (λ (l : List ℕ). 0 ∷ pass.operations ∷ pass.clocks ∷ pass.gots.count ∷ l) all_rows)

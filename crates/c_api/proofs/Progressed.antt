@@ -1,4 +1,4 @@
--- Numbers of a progress: a state that there is not is refused as state 0 is, and the numbers of an answer are those of the call.
+-- A progress with a state that there is not is refused as one with state 0 is.
 -- Assumes nothing.
 use mathlib.Core.Path.{◌≡◌, refl, sym, ap, ◌∙◌}
 use mathlib.Core.Bool.{Bool, true, false, cond}
@@ -11,16 +11,17 @@ use Rattle.model.specs.Refusals as refusal
 use Rattle.model.specs.Result.{Result, refused}
 use Rattle.model.specs.Text.{Bytes}
 use Rattle.recover_model.specs.RecoverCalls.{Progress, can_go_on, recover_line, recover_end, step_line}
-use Rattle.recover_line.proofs.GoingOn.{cannot}
-use Rattle.c_api.specs.Progress.{progress_numbers, state_in, Alike}
-
-pub no_state : (n : ℕ) → 15 < n → 0 ≡ state_in n
-no_state n l = rw (lt-ltb 15 n l)
-
-pub known_state : (n : ℕ) → n ≤ 15 → n ≡ state_in n
-known_state n l = rw (le-ltb 15 n l)
+use Rattle.recover_model.proofs.GoesOn.{Tested, tested}
+use Rattle.c_api.specs.Progress.{state_in, Alike}
 
 -- ---- what can't go on is refused at its count of lines
+
+cannot : (p : Progress) → (Tested p → ⊥) → can_go_on p ≡ false
+cannot p f = go (can_go_on p) refl
+  where
+    go : (t : Bool) → can_go_on p ≡ t → t ≡ false
+    go true e = absurd (f (tested p e))
+    go false e = refl
 
 line_cannot : (p : Progress) (l : Bytes) (plan : List ℕ) → can_go_on p ≡ false → recover_line p l plan ≡ record { result = refused refusal.clock_line p.lines; plan = plan }
 unfolding recover_line step_line
@@ -40,12 +41,6 @@ state_alike lines state entries bytes s e = go (ltb 15 state) refl e
     go true q z =
         let p : Progress = record { lines = lines; state = s; entries = entries; plan_bytes = bytes } in
         let r : Progress = record { lines = lines; state = state; entries = entries; plan_bytes = bytes } in
-        let a = sym (cannot p (λ t. omega (arith, t.low))) in
-        let b = sym (cannot r (λ t. omega (arith, t.high, ltb-true 15 state q))) in
+        let a = cannot p (λ t. omega (arith, t.low)) in
+        let b = cannot r (λ t. omega (arith, t.high, ltb-true 15 state q)) in
         record { line = λ l plan. line_cannot p l plan a ∙ sym (line_cannot r l plan b); end = λ rest. end_cannot p rest a ∙ sym (end_cannot r rest b) }
-
--- ---- the numbers of an answer
-
-module _ {A : Type 0} (answer_of : A → Result Progress) (r : A) (result : Result Progress) (is : answer_of r ≡ result) where
-  pub by_progress : (a : A) → r ≡ a → progress_numbers (answer_of a) ≡ progress_numbers result
-  by_progress a e = ap progress_numbers (ap answer_of (sym e) ∙ is)

@@ -3,8 +3,8 @@ ghost use Rattle.std.specs.Prelude.{◌≡◌};
 ghost use Rattle.carry_model.specs.Carry.{carry_text};
 ghost use Rattle.c_api.specs.Numbers.{count_numbers};
 
+use crate::numbers::count_numbers;
 use carrier::carry;
-use hold_lines::Held;
 
 // Writes the `hold` lines of the configuration that a passed plan left to the front of holds. answer takes 0 and the count of
 // bytes, or a refusal's number and place.
@@ -18,13 +18,5 @@ pub extern "C" fn penthluk_carry(
     ensures answer_after { answer.new ≡ count_numbers (carry_text network.now plan.now holds.old).result }
     ensures holds_after { holds.new ≡ (carry_text network.now plan.now holds.old).holds }
 {
-    let carried = carry(network, plan, holds);
-    match carried {
-        Held::Written(bytes) => {
-            *answer = [0, bytes];
-        }
-        Held::Refused(number, place) => {
-            *answer = [number, place];
-        }
-    }
+    *answer = count_numbers(carry(network, plan, holds));
 }

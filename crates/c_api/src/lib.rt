@@ -2,6 +2,7 @@
 #![tactic(auto)]
 
 pub mod carrying;
+mod numbers;
 pub mod recovery;
 
 ghost use Rattle.std.specs.Prelude.{◌≡◌};
@@ -10,12 +11,11 @@ ghost use Rattle.model.specs.Mark.{mark as mark_of_texts};
 ghost use Rattle.model.specs.NetworkText.{read_network};
 ghost use Rattle.c_api.specs.Numbers.{read_numbers, mark_numbers, count_numbers};
 
-use clock_writer::{Written, write_clocks};
+use crate::numbers::{count_numbers, refusal_numbers};
+use clock_writer::write_clocks;
 use marker::mark;
-use marker_targets::Verdict;
-use network_reader::reader::{Acceptance, read_network};
+use network_reader::reader::read_network;
 use planner::make_plan;
-use planner_text::Planned;
 
 // Reads a network text. answer takes 0 and the counts of nodes, segment bits, distinct steering bits and bits of the start's
 // path; or a refusal's number and place, and three zeros.
@@ -23,23 +23,16 @@ use planner_text::Planned;
 pub extern "C" fn penthluk_read(text: &[u8], answer: &mut [usize; 5])
     ensures { answer.new ≡ read_numbers (read_network text.now) }
 {
-    let reading = read_network(text);
-    let verdict = reading.verdict;
-    let network = reading.network;
-    match verdict {
-        Acceptance::Accepted => {
-            *answer = [
-                0,
-                network.summary.count,
-                network.summary.total,
-                network.steering_count,
-                network.start_length,
-            ];
-        }
-        Acceptance::Refused(number, place) => {
-            *answer = [number, place, 0, 0, 0];
-        }
-    }
+    *answer = match read_network(text) {
+        Ok(network) => [
+            0,
+            network.summary.count,
+            network.summary.total,
+            network.steering_count,
+            network.start_length,
+        ],
+        Err(refusal) => refusal_numbers(refusal),
+    };
 }
 
 // Marks a plan text against a network text. answer takes 0, the counts of operations, of clocks and of `got` rows, and the rows,
@@ -48,34 +41,30 @@ pub extern "C" fn penthluk_read(text: &[u8], answer: &mut [usize; 5])
 pub extern "C" fn penthluk_mark(network: &[u8], plan: &[u8], answer: &mut [usize; 16])
     ensures { answer.new ≡ mark_numbers (mark_of_texts network.now plan.now) }
 {
-    let marked = mark(network, plan);
-    let verdict = marked.verdict;
-    let gots = marked.gots;
-    match verdict {
-        Verdict::Pass(operations, clocks) => {
-            *answer = [
+    *answer = match mark(network, plan) {
+        Ok(pass) => {
+            let rows = pass.gots.rows;
+            [
                 0,
-                operations,
-                clocks,
-                gots.count,
-                gots.targets[0],
-                gots.operations[0],
-                gots.places[0],
-                gots.targets[1],
-                gots.operations[1],
-                gots.places[1],
-                gots.targets[2],
-                gots.operations[2],
-                gots.places[2],
-                gots.targets[3],
-                gots.operations[3],
-                gots.places[3],
-            ];
+                pass.operations,
+                pass.clocks,
+                pass.gots.count,
+                rows[0].target,
+                rows[0].operation,
+                rows[0].place,
+                rows[1].target,
+                rows[1].operation,
+                rows[1].place,
+                rows[2].target,
+                rows[2].operation,
+                rows[2].place,
+                rows[3].target,
+                rows[3].operation,
+                rows[3].place,
+            ]
         }
-        Verdict::Refused(number, place) => {
-            *answer = [number, place, 0, 0, 0, 0, 0, 0, 0, 0, 0, 0, 0, 0, 0, 0];
-        }
-    }
+        Err(refusal) => refusal_numbers(refusal),
+    };
 }
 
 // Writes the clocks of a plan text to the buffers. answer takes 0 and the count of clocks, or a refusal's number and place.
@@ -90,15 +79,7 @@ pub extern "C" fn penthluk_clocks(
     ensures tms_after { tms.new ≡ (write_clocks plan.now tms.old tdi.old).tms }
     ensures tdi_after { tdi.new ≡ (write_clocks plan.now tms.old tdi.old).tdi }
 {
-    let written = write_clocks(plan, tms, tdi);
-    match written {
-        Written::Clocks(count) => {
-            *answer = [0, count];
-        }
-        Written::Refused(number, place) => {
-            *answer = [number, place];
-        }
-    }
+    *answer = count_numbers(write_clocks(plan, tms, tdi));
 }
 
 // Writes the plan of a network text to the front of plan. answer takes 0 and the count of bytes, or a refusal's number and place.
@@ -113,13 +94,5 @@ pub extern "C" fn penthluk_plan(
     ensures search_after { search.new ≡ (make_plan network.now search.old plan.old).search }
     ensures plan_after { plan.new ≡ (make_plan network.now search.old plan.old).plan }
 {
-    let planned = make_plan(network, search, plan);
-    match planned {
-        Planned::Written(bytes) => {
-            *answer = [0, bytes];
-        }
-        Planned::Refused(number, place) => {
-            *answer = [number, place];
-        }
-    }
+    *answer = count_numbers(make_plan(network, search, plan));
 }

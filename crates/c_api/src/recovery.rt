@@ -2,22 +2,22 @@
 // to Capture-DR and the plan's bytes; before the first line 0, 1, 0, 0.
 ghost use Rattle.std.specs.Prelude.{◌≡◌};
 ghost use Rattle.recover_model.specs.RecoverCalls.{recover_text, recover_line, recover_end};
+ghost use Rattle.clock_writer.specs.Machine.{state_code};
 ghost use Rattle.clock_follower.specs.Counts.{progress_for};
 ghost use Rattle.c_api.specs.Numbers.{count_numbers};
 ghost use Rattle.c_api.specs.Progress.{progress_in, progress_numbers, Alike, state_in};
 
+use crate::numbers::{count_numbers, progress_numbers};
 use clock_follower::Progress;
-use recover_line::{Ended, Stepped, recover_end, recover_line};
+use clock_writer::State;
+use recover_line::{recover_end, recover_line};
 use recoverer::whole::recover_text;
 
 // A state by its number; one that there is not is taken for Test-Logic-Reset, which no call leaves either.
-fn state_of(number: usize) -> u8
-    ensures { result ≡ state_in number }
+fn state_of(number: usize) -> State
+    ensures { state_code result ≡ state_in number }
 {
-    if 15 < number {
-        return 0;
-    }
-    number as u8
+    State::from_number(number).unwrap_or(State::TestLogicReset)
 }
 
 // The progress of four numbers, or one that is answered alike.
@@ -39,15 +39,7 @@ pub extern "C" fn penthluk_recover(text: &[u8], plan: &mut [u8], answer: &mut [u
     ensures answer_after { answer.new ≡ count_numbers (recover_text text.now plan.old).result }
     ensures plan_after { plan.new ≡ (recover_text text.now plan.old).plan }
 {
-    let ended = recover_text(text, plan);
-    match ended {
-        Ended::Bytes(bytes) => {
-            *answer = [0, bytes];
-        }
-        Ended::Refused(number, place) => {
-            *answer = [number, place];
-        }
-    }
+    *answer = count_numbers(recover_text(text, plan));
 }
 
 // One line, without its byte 10, from a progress on. answer takes 0 and the progress after it, or a refusal's number and place and
@@ -62,15 +54,7 @@ pub extern "C" fn penthluk_recover_line(
     ensures answer_after { answer.new ≡ progress_numbers (recover_line (progress_in progress.now) line.now plan.old).result }
     ensures plan_after { plan.new ≡ (recover_line (progress_in progress.now) line.now plan.old).plan }
 {
-    let stepped = recover_line(progress_of(progress), line, plan);
-    match stepped {
-        Stepped::To(p) => {
-            *answer = [0, p.lines, p.state as usize, p.entries, p.bytes];
-        }
-        Stepped::Refused(number, place) => {
-            *answer = [number, place, 0, 0, 0];
-        }
-    }
+    *answer = progress_numbers(recover_line(progress_of(progress), line, plan));
 }
 
 // The end of the text, with the bytes behind its last byte 10. answer takes 0 and the plan's bytes, or a refusal's number and place.
@@ -78,13 +62,5 @@ pub extern "C" fn penthluk_recover_line(
 pub extern "C" fn penthluk_recover_end(progress: &[usize; 4], rest: &[u8], answer: &mut [usize; 2])
     ensures { answer.new ≡ count_numbers (recover_end (progress_in progress.now) rest.now) }
 {
-    let ended = recover_end(progress_of(progress), rest);
-    match ended {
-        Ended::Bytes(bytes) => {
-            *answer = [0, bytes];
-        }
-        Ended::Refused(number, place) => {
-            *answer = [number, place];
-        }
-    }
+    *answer = count_numbers(recover_end(progress_of(progress), rest));
 }

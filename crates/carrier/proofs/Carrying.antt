@@ -4,6 +4,8 @@ use mathlib.Core.Path.{◌≡◌, sym, ap, ◌∙◌}
 use mathlib.Core.List.{List}
 use Prim.Native.Nat.{ℕ}
 use lib.ListN.{length}
+use Rattle.std.specs.Prelude.{Result as Answer, Ok, Err}
+use Rattle.model.specs.Answers.{number_of}
 use Rattle.model.specs.Calls.{written, count_of, if_room}
 use Rattle.model.specs.Mark.{Pass, mark_plan, mark}
 use Rattle.model.specs.Network.{Network, Config}
@@ -12,20 +14,16 @@ use Rattle.model.specs.Plan.{Plan}
 use Rattle.model.specs.PlanText.{read_plan}
 use Rattle.model.specs.Result.{Result, ok, refused, and_then}
 use Rattle.model.specs.Text.{Bytes}
+use Rattle.model.specs.declared.refusal.Refusal.{Refusal}
 use Rattle.model.proofs.Lists.{handed}
 use Rattle.carry_model.specs.Carry.{hold_lines, config_text, left_by, carry, carry_text}
 use Rattle.carry_model.proofs.Carried.{carried_as_marked}
 use Rattle.network_path.specs.Layout.{nodes_of}
 use Rattle.network_path.proofs.StoredLaws.{stored_short}
-use Rattle.marker_targets.specs.declared.Verdict.{Verdict}
-use Rattle.marker_targets.specs.declared.Verdict.TheVariants.{Pass as Passed, Refused as Failed}
 use Rattle.marker.specs.declared.Marked.{Marked}
 use Rattle.marker.specs.Left.{Stands, LeftAfter}
-use Rattle.marker_targets.specs.Answers.{gots_of, verdict_of}
 use Rattle.marker.specs.Marks.{MarkReturned}
 use Rattle.hold_lines.specs.Lines.{text_at, Configured, GivesText}
-use Rattle.hold_lines.specs.declared.Held.{Held}
-use Rattle.hold_lines.specs.declared.Held.TheVariants.{Refused}
 use Rattle.carrier.specs.Call.{CarryReturned}
 
 -- the call's answer by what is carried
@@ -39,14 +37,14 @@ carries_left : (n p : Bytes) (net : Network) (plan : Plan) (pass : Pass) → rea
 unfolding carry
 carries_left n p net plan pass e f g = rw (e, f, g)
 
-module _ (n p : Bytes) (m : Marked) (is : MarkReturned n p m.mark) where
-  pub not_carried : (holds : List ℕ) (number place : ℕ) → m.mark.verdict ≡ Failed number place → CarryReturned n p holds (Refused number place) holds
-  not_carried holds number place e =
-      let marks : mark n p ≡ refused number place = sym is.result ∙ ap (λ (v : Verdict). verdict_of v (gots_of m.mark.gots)) e in
-      let a = by_carry n p holds (refused number place) (((carried_as_marked n p).refuses number place).0 marks) in
+module _ (n p : Bytes) where
+  pub not_carried : (holds : List ℕ) (r : Refusal) → MarkReturned n p (Err r) → CarryReturned n p holds (Err r) holds
+  not_carried holds r is =
+      let number = number_of r.kind in
+      let a = by_carry n p holds (refused number r.place) (((carried_as_marked n p).refuses number r.place).0 (sym is.result)) in
       record { result = sym a.0; left = sym a.1 }
 
-  module _ (lines clocks : ℕ) (e : m.mark.verdict ≡ Passed lines clocks) (leaves : LeftAfter n p m) where
+  module _ (m : Marked) (is : MarkReturned n p (Ok m.pass)) (leaves : LeftAfter n p m) where
     -- what a pass left
     record Left : Type 0 where
       net : Network
@@ -57,9 +55,7 @@ module _ (n p : Bytes) (m : Marked) (is : MarkReturned n p m.mark) where
     left : Left
     unfolding mark
     left =
-        let marks : mark n p ≡ ok record { operations = lines; clocks = clocks; gots = gots_of m.mark.gots } =
-        sym is.result ∙ ap (λ (v : Verdict). verdict_of v (gots_of m.mark.gots)) e in
-        let a = handed (read_network n) (λ net. and_then (read_plan p) (mark_plan net)) _ marks in
+        let a = handed (read_network n) (λ net. and_then (read_plan p) (mark_plan net)) _ (sym is.result) in
         let b = handed (read_plan p) (mark_plan a.value) _ a.then in
         record {
           net = a.value;
@@ -79,7 +75,7 @@ module _ (n p : Bytes) (m : Marked) (is : MarkReturned n p m.mark) where
         let s = left.stands in
         ap (λ (c : Config). hold_lines c 1 (nodes_of m.nodes m.count)) s.config ∙ ap (hold_lines (left_by left.net left.plan) 1) (sym s.stored.nodes)
 
-    pub given : (holds : List ℕ) (r : Held) (holds' : List ℕ) → GivesText (text_at m.nodes m.bits m.known m.count) holds r holds' → CarryReturned n p holds r holds'
+    pub given : (holds : List ℕ) (r : Answer ℕ Refusal) (holds' : List ℕ) → GivesText (text_at m.nodes m.bits m.known m.count) holds r holds' → CarryReturned n p holds r holds'
     given holds r holds' g =
         let a = by_carry n p holds _ (left.carries ∙ ap ok (sym text_is)) in
         record { result = g.result ∙ sym a.0; left = g.left ∙ sym a.1 }

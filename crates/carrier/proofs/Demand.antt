@@ -8,20 +8,20 @@ use native.Mathlib.Omega.{arith}
 use lib.Dec.{ltb}
 use lib.ListN.{length, take}
 use borrow.Author.Tests.{le-ltb}
+use Rattle.std.specs.Prelude.{Result as Answer, Ok, Err}
+use Rattle.model.specs.Answers.{number_of, count_of as counted_of}
 use Rattle.model.specs.Calls.{written, count_of, if_room}
 use Rattle.model.specs.Mark.{Pass, mark}
 use Rattle.model.specs.Places.{◌or◌, Listed, NetworkRefusal, PlanTextRefusal, MarkerRefusal}
 use Rattle.model.specs.Result.{Result, ok, refused}
 use Rattle.model.specs.Text.{Bytes}
+use Rattle.model.specs.declared.refusal.Refusal.{Refusal}
 use Rattle.model.proofs.CallCases.{room_is, row_taken}
 use Rattle.model.proofs.Lists.{not_ok, ok_is, handed}
 use Rattle.carry_model.specs.Carry.{carry, in_room, carry_text, max_hold_bytes}
 use Rattle.carry_model.specs.CarryDemands.{ShortHolds}
 use Rattle.carry_model.proofs.Carried.{carried_bytes}
 use Rattle.carry_model.proofs.Requests.{carry_marks, used_as_start, start_accepted, carry_buffer, carry_buffer_after, carry_refusals}
-use Rattle.hold_lines.specs.Lines.{held_of}
-use Rattle.hold_lines.specs.declared.Held.{Held}
-use Rattle.hold_lines.specs.declared.Held.TheVariants.{Written, Refused}
 use Rattle.carrier.specs.Call.{CarryReturned}
 use Rattle.carrier.specs.Demand.{BufferKept, EndsListed, WrittenAfterPass, NextStart, WrittenIsStart}
 
@@ -29,13 +29,13 @@ use Rattle.carrier.specs.Demand.{BufferKept, EndsListed, WrittenAfterPass, NextS
 
 pub buffer_kept : BufferKept
 buffer_kept n p holds r holds' is = record {
-  kept = λ number place e. is.left ∙ carry_buffer n p holds number place (sym is.result ∙ ap held_of e);
-  written = λ count e. rw is.left (carry_buffer_after n p holds count (sym is.result ∙ ap held_of e));
+  kept = λ x e. is.left ∙ carry_buffer n p holds (number_of x.kind) x.place (sym is.result ∙ ap counted_of e);
+  written = λ count e. rw is.left (carry_buffer_after n p holds count (sym is.result ∙ ap counted_of e));
 }
 
 pub ends_listed : EndsListed
-ends_listed n p holds r holds' is number place e =
-    subst (Listed (NetworkRefusal n or PlanTextRefusal p or MarkerRefusal n p or ShortHolds holds)) (sym is.result ∙ ap held_of e) (carry_refusals n p holds)
+ends_listed n p holds r holds' is x e =
+    subst (Listed (NetworkRefusal n or PlanTextRefusal p or MarkerRefusal n p or ShortHolds holds)) (sym is.result ∙ ap counted_of e) (carry_refusals n p holds)
 
 -- ---- what is written
 
@@ -44,9 +44,9 @@ record Lines (n p : Bytes) (count : ℕ) (holds' : List ℕ) : Type 0 where
   carries : carry n p ≡ ok held
   are : take count holds' ≡ held
 
-lines : (n p : Bytes) (holds : List ℕ) (r : Held) (holds' : List ℕ) → CarryReturned n p holds r holds' → (count : ℕ) → r ≡ Written count → Lines n p count holds'
+lines : (n p : Bytes) (holds : List ℕ) (r : Answer ℕ Refusal) (holds' : List ℕ) → CarryReturned n p holds r holds' → (count : ℕ) → r ≡ Ok count → Lines n p count holds'
 unfolding carry_text
-lines n p holds r holds' is count e = go (in_room (carry n p) (length holds)) refl (sym is.result ∙ ap held_of e) is.left
+lines n p holds r holds' is count e = go (in_room (carry n p) (length holds)) refl (sym is.result ∙ ap counted_of e) is.left
   where
     go : (x : Result Bytes) → in_room (carry n p) (length holds) ≡ x → count_of x ≡ ok count → holds' ≡ written x holds → Lines n p count holds'
     go (refused number place) q c l = absurd (not_ok c)
@@ -54,9 +54,9 @@ lines n p holds r holds' is count e = go (in_room (carry n p) (length holds)) re
         let h = handed (carry n p) (if_room (length holds)) held q in
         record { held = held; carries = h.given ∙ ap ok (room_is (length holds) h.value held h.then); are = ap (take count) l ∙ row_taken held holds count (ok_is c) }
 
-told_written : (a : Held) (m : ℕ) → held_of a ≡ ok m → (count : ℕ) × (a ≡ Written count)
-told_written (Written count) m e = (count, refl)
-told_written (Refused number place) m e = absurd (not_ok e)
+told_written : (a : Answer ℕ Refusal) (m : ℕ) → counted_of a ≡ ok m → (count : ℕ) × (a ≡ Ok count)
+told_written (Ok count) m e = (count, refl)
+told_written (Err x) m e = absurd (not_ok e)
 
 fits : (n p : Bytes) (holds : List ℕ) (held : Bytes) → max_hold_bytes ≤ length holds → carry n p ≡ ok held → (carry_text n p holds).result ≡ ok (length held)
 unfolding carry_text
@@ -67,10 +67,10 @@ fits n p holds held room e =
 pub written_after_pass : WrittenAfterPass
 written_after_pass n p holds r holds' is room = (there, back)
   where
-    there : (count : ℕ) × (r ≡ Written count) → (pass : Pass) × (mark n p ≡ ok pass)
+    there : (count : ℕ) × (r ≡ Ok count) → (pass : Pass) × (mark n p ≡ ok pass)
     there x = let l = lines n p holds r holds' is x.0 x.1 in (carry_marks n p).passes.1 (l.held, l.carries)
 
-    back : (pass : Pass) × (mark n p ≡ ok pass) → (count : ℕ) × (r ≡ Written count)
+    back : (pass : Pass) × (mark n p ≡ ok pass) → (count : ℕ) × (r ≡ Ok count)
     back x = let c = (carry_marks n p).passes.0 x in told_written r _ (is.result ∙ fits n p holds c.0 room c.1)
 
 pub written_is_start : WrittenIsStart

@@ -3,25 +3,14 @@
 
 ghost use Rattle.carrier.specs.Call.{CarryReturned};
 
-use hold_lines::{Held, write_holds};
+use hold_lines::write_holds;
 use marker::mark_leaving;
-use marker_targets::Verdict;
+use model::refusal::Refusal;
 
 // The lines at the front of a buffer: the mark's refusals, then 13 where the buffer has no room for them.
-pub fn carry(network: &[u8], plan: &[u8], holds: &mut [u8]) -> Held
+pub fn carry(network: &[u8], plan: &[u8], holds: &mut [u8]) -> Result<usize, Refusal>
     ensures { CarryReturned network.now plan.now holds.old result holds.new }
 {
-    let marked = mark_leaving(network, plan);
-    let mark = marked.mark;
-    let verdict = mark.verdict;
-    match verdict {
-        Verdict::Refused(number, place) => Held::Refused(number, place),
-        Verdict::Pass(_, _) => write_holds(
-            &marked.nodes,
-            &marked.bits,
-            &marked.known,
-            marked.count,
-            holds,
-        ),
-    }
+    let left = mark_leaving(network, plan)?;
+    write_holds(&left.nodes, &left.bits, &left.known, left.count, holds)
 }

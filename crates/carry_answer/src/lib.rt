@@ -7,7 +7,6 @@ ghost use Rattle.program_text.specs.Printing.{PrintedTo};
 
 use carrier::carry;
 use carry_model::MAX_HOLD_BYTES;
-use hold_lines::Held;
 use program_lines::put_refusal;
 
 // Room for the lines of every configuration. The line of a refusal is shorter.
@@ -18,9 +17,8 @@ pub fn print_carry(network: &[u8], plan: &[u8], out: &mut [u8; ROOM]) -> usize
     ensures printed_to { PrintedTo (carry_program network.now plan.now) out.old result out.new }
     ensures prefix_len { IsPrefixLen result out.new }
 {
-    let carried = carry(network, plan, out);
-    match carried {
-        Held::Written(n) => n,
-        Held::Refused(number, place) => put_refusal(out, number, place),
+    match carry(network, plan, out) {
+        Ok(n) => n,
+        Err(refusal) => put_refusal(out, refusal),
     }
 }

@@ -2,7 +2,7 @@
 -- Assumes nothing.
 use mathlib.Core.Path.{◌≡◌, refl, ap, ◌∙◌}
 use mathlib.Core.Bool.{Bool, true, false, cond, not, ◌||◌}
-use mathlib.Core.Option.{none, some}
+use Rattle.std.specs.Prelude.{None as none, Some as some}
 use borrow.Author.Tests.{not-true}
 use Rattle.model.specs.NetworkText.{field, Line, node, out, hold, target, line_of}
 use Rattle.model.specs.Text.{Bytes, bytes, fields, LineWord, Seg, Mux, Out, Hold, Write, Read, Csu, same, word_of}

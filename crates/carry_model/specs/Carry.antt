@@ -1,7 +1,7 @@
 -- The text of a configuration, and what is carried into the next exercise (document 02, Change 3).
 -- Assumes nothing.
 use Rattle.std.specs.Prelude.{cond, List, [], ◌∷◌, ◌++◌, map, reverse, ℕ, suc, length}
-use Rattle.std.proofs.Math.Option.{none, some}
+use Rattle.std.specs.Prelude.{None as none, Some as some}
 use Rattle.model.specs.Result.{Result, ok, and_then}
 use Rattle.model.specs.Text.{Bytes, Trit}
 use Rattle.model.specs.Network.{Node, Config, Network, at, is_segment}

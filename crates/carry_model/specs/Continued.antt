@@ -1,7 +1,7 @@
 -- What document 02, Change 3, "Carry a setting into the next exercise", promises over texts; proofs/Requests.antt proves it.
 -- Assumes nothing.
 use Rattle.std.specs.Prelude.{◌≡◌, Bool, cond, not, ◌||◌, ◌↔◌, ℕ, ◌+◌, ◌≤◌, length}
-use Rattle.std.proofs.Math.Option.{some}
+use Rattle.std.specs.Prelude.{Some as some}
 use mathlib.Core.List.{List, [], ◌∷◌, ◌++◌, map, Memᴰ}
 use Prim.Native.String.{String}
 use Rattle.model.specs.Limits.{max_operations}

@@ -11,8 +11,7 @@ ghost use Rattle.program_text.specs.Printing.{PrintedTo};
 
 use clock_writer::{write_tdi, write_tms};
 use model::limits::{MAX_OPERATIONS, MAX_PLAN_BYTES};
-use model::refusal;
-use plan_text::{Form, bits_at, check_form, put};
+use plan_text::{bits_at, check_form, put};
 use program_lines::put_refusal;
 
 // Room for the lines of the longest plan. The plan's line of n bits has n + 5 bytes, and so have its TMS and its TDI;
@@ -39,6 +38,7 @@ fn put_operations(plan: &[u8], out: &mut [u8]) -> usize
 {
     let mut next: usize = 0;
     let mut at: usize = 0;
+    // A while, as the step varies.
     while at < plan.len() {
         let bits = bits_at(plan, at);
         next = put_operation(out, next, bits);
@@ -52,9 +52,8 @@ pub fn print_clocks(plan: &[u8], out: &mut [u8; ROOM]) -> usize
     ensures printed_to { PrintedTo (clock_program plan.now) out.old result out.new }
     ensures prefix_len { IsPrefixLen result out.new }
 {
-    let form = check_form(plan);
-    match form {
-        Form::Good(_) => put_operations(plan, out),
-        Form::Refused(place) => put_refusal(out, refusal::PLAN_FORM, place),
+    match check_form(plan) {
+        Ok(_) => put_operations(plan, out),
+        Err(refusal) => put_refusal(out, refusal),
     }
 }

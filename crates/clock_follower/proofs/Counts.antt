@@ -2,7 +2,7 @@
 -- Assumes nothing.
 use mathlib.Core.Path.{◌≡◌, refl, sym, ap, ◌∙◌, subst}
 use mathlib.Core.Bool.{Bool, true, false, cond, ◌||◌}
-use mathlib.Core.Option.{Option, none, some}
+use Rattle.std.specs.Prelude.{Option, None as none, Some as some}
 use mathlib.Core.List.{List, [], ◌∷◌, map}
 use Prim.Native.Nat.{ℕ, zero, suc, ◌+◌, ◌-◌, ◌*◌, ◌≤◌, ◌<◌}
 use native.Mathlib.Omega.{arith}
@@ -21,7 +21,7 @@ use Rattle.recover_model.proofs.Following.{moved_state, moved_more}
 use Rattle.recover_model.proofs.TapStates.{counts_of_state}
 use Rattle.clock_writer.specs.Machine.{is_one, next_number}
 use Rattle.clock_writer.proofs.Table.{numbered}
-use Rattle.clock_follower.specs.Counts.{moved_on, offending, unless_offending, counts_by, CountsNothing}
+use Rattle.clock_follower.specs.Counts.{moved_on, offending, unless_offending, counts_by}
 
 -- ---- the follower's counts
 
@@ -200,20 +200,3 @@ module _ (p q : Progress) (tms : Bytes) (i end t : ℕ) (whole : counts_by q (ma
 pub counts_end : (p q : Progress) (tms : Bytes) (i : ℕ) → counts_by q (map is_one (drop i tms)) ≡ counts_by p (map is_one tms) → length tms ≤ i → some q ≡ counts_by p (map is_one tms)
 unfolding counts_by
 counts_end p q tms i whole l = rw (drop_of_length-le tms l) at whole
-
--- ---- a stretch passed
-
--- q, moved on to m, with its test x
-module _ (q m : Progress) (x : Bool) (moves : q ≡ m) (tested : x ≡ offending q) where
-  pub stops : x ≡ true → none ≡ unless_offending m
-  stops t = let y : offending q ≡ true = sym tested ∙ t in sym (ap unless_offending (sym moves) ∙ rw y)
-
-  pub passes : x ≡ false → some q ≡ unless_offending m
-  passes f = let y : offending q ≡ false = sym tested ∙ f in sym (ap unless_offending (sym moves) ∙ rw y)
-
--- one that counts nothing changes only the state
-pub counted_nothing : (p : Progress) (count t : ℕ) → CountsNothing p.state t → KeepsLimits p → some (counting p.lines t p.entries p.plan_bytes) ≡ unless_offending (moved_on p count t)
-counted_nothing p count t x w =
-    let same : moved_on p count t ≡ counting p.lines t p.entries p.plan_bytes = rw (x.no_bits, x.no_entry) (same_counts p.lines t (omega arith) (omega arith)) in
-    let good : offending (counting p.lines t p.entries p.plan_bytes) ≡ false = rw (x.no_ir, le-ltb max_operations p.entries w.few, le-ltb max_plan_bytes p.plan_bytes w.short) in
-    passes _ _ false (sym same) (sym good) refl

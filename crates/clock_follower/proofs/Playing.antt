@@ -3,9 +3,9 @@
 -- Assumes nothing.
 use mathlib.Core.Path.{◌≡◌, refl, sym, ap, subst}
 use mathlib.Core.Bool.{Bool, true, false, cond}
-use mathlib.Core.Option.{none, some}
+use Rattle.std.specs.Prelude.{None as none, Some as some}
 use mathlib.Core.List.{[], map}
-use Prim.Native.Nat.{ℕ, ◌+◌, ◌-◌, ◌*◌, ◌≤◌, ◌<◌}
+use Prim.Native.Nat.{ℕ, ◌+◌, ◌-◌, ◌*◌, ◌≤◌}
 use native.Mathlib.Omega.{arith}
 use lib.ListN.{length, drop, get_or, length-append, length-drop}
 use lib.Seq.{length-take-le}
@@ -21,7 +21,7 @@ use Rattle.clock_writer.proofs.Table.{number_at}
 use Rattle.clock_follower.specs.Counts.{moved_on, unless_offending, counts_by}
 use Rattle.clock_follower.specs.Stretches.{EndsStretch, stretch_text, AreBits, StandsBefore, Played}
 use Rattle.clock_follower.proofs.Counts.{IsStretch, KeepsLimits, went_on, counts_stop, counts_on, counts_end}
-use Rattle.clock_follower.proofs.Stretches.{stretch_of, bits_from, WrittenTo, written_start, written_end, written_on}
+use Rattle.clock_follower.proofs.Stretches.{stretch_of, bits_from, WrittenTo, written_end, written_on}
 
 -- from state s to state t, both by number
 abbrev Keeps : Bytes → ℕ → ℕ → Type 0
@@ -57,9 +57,6 @@ pub record PlayedTo (p₀ : Progress) (at₀ : ℕ) (tms tdi plan₀ plan : Byte
   pub counted : counts_by p (map is_one (drop i tms)) ≡ counts_by p₀ (map is_one tms)
   pub written : WrittenTo p₀.state at₀ tms tdi plan₀ plan p.state at i
   pub stands : StandsBefore at p.state p.plan_bytes
-
-pub played_start : (p : Progress) (at : ℕ) (tms tdi plan : Bytes) → p.state < 16 → KeepsLimits p → StandsBefore at p.state p.plan_bytes → PlayedTo p at tms tdi plan plan p at 0
-played_start p at tms tdi plan known limits stands = record { limits = limits; counted = refl; written = written_start p.state at tms tdi plan known; stands = stands }
 
 module _ (p₀ : Progress) (at₀ : ℕ) (tms tdi plan₀ plan : Bytes) (p : Progress) (at i : ℕ) (so : PlayedTo p₀ at₀ tms tdi plan₀ plan p at i) where
   pub played_end : length tms ≤ i → Played p₀ at₀ tms tdi plan₀ (some p) plan

@@ -3,14 +3,14 @@
 use mathlib.Core.Path.{◌≡◌, refl, sym, ap, ◌∙◌}
 use mathlib.Core.Bool.{Bool, true, false, cond}
 use mathlib.Core.List.{[], ◌∷◌, ◌++◌, map, append_assoc}
-use Prim.Native.Nat.{ℕ, zero, suc, ◌+◌, ◌-◌, ◌≤◌, ◌<◌}
+use Prim.Native.Nat.{ℕ, zero, suc, ◌+◌, ◌-◌, ◌≤◌, ◌<◌, min}
 use native.Mathlib.Omega.{arith}
 use native.Mathlib.Nat.{add-zero}
 use lib.ListN.{length, take, drop, get_or, length-append, length-drop, drop_of_length-le}
 use lib.Seq.{drop-drop, get_or-drop}
 use lib.Dec.{eqb}
-use borrow.Author.Tests.{eq-eqb, ne_eqb, eqb-true}
-use Rattle.model.specs.Text.{Bytes, bytes, line_end}
+use borrow.Author.Tests.{eqb-true}
+use Rattle.model.specs.Text.{Bytes}
 use Rattle.model.specs.Tap.{Tap, reset, idle, selectDR, captureDR, shiftDR, exit1DR, pauseDR, exit2DR, updateDR, selectIR, captureIR, shiftIR, exit1IR, pauseIR, exit2IR, updateIR, next, state_at, state_number, state_after, action, bit_byte}
 use Rattle.model.proofs.Lists.{drop_map}
 use Rattle.recover_model.specs.RecoverCalls.{at_entry, at_clock, added_text}
@@ -18,8 +18,10 @@ use Rattle.text_runs.specs.Runs.{run_length, is_zero}
 use Rattle.text_runs.proofs.RunLaws.{run_bytes}
 use Rattle.plan_text.specs.Writing.{write_at}
 use Rattle.plan_text.proofs.Writing.{write_none, write_length, write_behind}
-use Rattle.clock_writer.specs.Machine.{is_one, next_number}
-use Rattle.clock_writer.proofs.Table.{number_at, numbered, run_end}
+use Rattle.clock_writer.specs.declared.State.{State}
+use Rattle.clock_writer.specs.declared.State.TheVariants.{CaptureDR, ShiftDR, UpdateDR}
+use Rattle.clock_writer.specs.Machine.{is_one, state_code, next_number}
+use Rattle.clock_writer.proofs.Table.{number_at, numbered, code_other, run_end}
 use Rattle.clock_follower.specs.Stretches.{EndsStretch, clocks_text, entry_text, stretch_text, clocks_from, AreBits, Wrote}
 use Rattle.clock_follower.proofs.Counts.{Staying, staying, IsStretch, stretch_rest}
 
@@ -93,45 +95,17 @@ stretch_text_law (suc count) s t (b ∷ tms) (d ∷ tdi) small same bits x =
     ∙ ap (λ (l : Bytes). clocks_text s (d ∷ []) ++ (entry_text s ++ l)) (stretch_text_law count s t tms tdi small (omega arith) (ap (drop 1) bits) (stretch_rest s b count t tms x))
     ∙ text_more s d (take (suc count) tdi) _ (staying s (is_one b) stays)
 
--- ---- what clocks and an entry write, case by case
+-- ---- states that write nothing
 
-pub clocks_shift : (s : ℕ) (bits : Bytes) → s ≡ 4 → clocks_text s bits ≡ bits
-clocks_shift s bits e = rw (eq-eqb s 4 e)
+pub no_clocks_text : (s : State) (bits : Bytes) → (s ≡ ShiftDR → ⊥) → (s ≡ UpdateDR → ⊥) → clocks_text (state_code s) bits ≡ []
+no_clocks_text s bits f g = rw (code_other s ShiftDR f, code_other s UpdateDR g)
 
-pub clocks_update : (s : ℕ) (bits : Bytes) → s ≡ 8 → clocks_text s bits ≡ line_end ∷ []
-clocks_update s bits e = rw e
+pub no_entry_text : (t : State) → (t ≡ CaptureDR → ⊥) → entry_text (state_code t) ≡ []
+no_entry_text t f = rw (code_other t CaptureDR f)
 
-pub clocks_none : (s : ℕ) (bits : Bytes) → (s ≡ 4 → ⊥) → (s ≡ 8 → ⊥) → clocks_text s bits ≡ []
-clocks_none s bits f g = rw (ne_eqb s 4 f, ne_eqb s 8 g)
+pub ruleset writing_nothing = (no_clocks_text, no_entry_text, write_none)
 
-pub entry_capture : (t : ℕ) → t ≡ 3 → entry_text t ≡ bytes "csu\t"
-entry_capture t e = rw e
-
-pub entry_none : (t : ℕ) → (t ≡ 3 → ⊥) → entry_text t ≡ []
-entry_none t f = rw (ne_eqb t 3 f)
-
--- the same bytes by another name, and no bytes
-pub wrote_as : (at : ℕ) (old : Bytes) {text new left : Bytes} {r : ℕ} → text ≡ new → (r ≡ at + length new) × (left ≡ write_at at new old) → (r ≡ at + length text) × (left ≡ write_at at text old)
-wrote_as at old e w = rw e w
-
-pub wrote_none : (at : ℕ) (old : Bytes) {text : Bytes} → text ≡ [] → (at ≡ at + length text) × (old ≡ write_at at text old)
-wrote_none at old e = rw e (sym (add-zero at), sym (write_none at old))
-
--- first the clocks, then the entry
-module _ (state at : ℕ) (bits plan : Bytes) (t : ℕ) (room : at + length (stretch_text state bits t) ≤ length plan) where
-  pub clocks_fit : at + length (clocks_text state bits) ≤ length plan
-  clocks_fit = omega (arith, length-append (clocks_text state bits) (entry_text t))
-
-  module _ (behind : ℕ) (plan' : Bytes) (w : (behind ≡ at + length (clocks_text state bits)) × (plan' ≡ write_at at (clocks_text state bits) plan)) where
-    pub entry_fits : behind + length (entry_text t) ≤ length plan'
-    entry_fits = omega (arith, length-append (clocks_text state bits) (entry_text t), w.0, ap length w.1, write_length at (clocks_text state bits) plan clocks_fit)
-
-    pub stretch_put : (at' : ℕ) (plan'' : Bytes) → (at' ≡ behind + length (entry_text t)) × (plan'' ≡ write_at behind (entry_text t) plan')
-        → (at' ≡ at + length (stretch_text state bits t)) × (plan'' ≡ write_at at (stretch_text state bits t) plan)
-    stretch_put at' plan'' z = (
-      omega (arith, w.0, z.0, length-append (clocks_text state bits) (entry_text t)),
-      z.1 ∙ ap (λ (n : ℕ). write_at n (entry_text t) plan') w.0 ∙ ap (write_at (at + length (clocks_text state bits)) (entry_text t)) w.1 ∙ write_behind at (clocks_text state bits) plan clocks_fit (entry_text t),
-    )
+pub ruleset writing_both = (write_behind, length-append)
 
 -- ---- stretches as the code finds them
 
@@ -140,9 +114,9 @@ stretch_small s t zero tms x = absurd (omega (arith, x.some_clock))
 stretch_small s t (suc count) tms x = rw (← x.leads count refl) (numbered (next (state_at s) (is_one (get_or tms count 0)))).0
 
 -- zeros that stay, or some of them, and the clock behind them
-pub zeros_end : (s at end last : ℕ) (tms : Bytes) → next_number s false ≡ s → last ≡ at + run_length is_zero (drop at tms) → at < end → end ≤ suc last → end ≤ length tms → EndsStretch s tms at end
-zeros_end s at end last tms stays is from up l =
-    record { some_clock = from; within = l; stays = λ k h. rw (eqb-true (get_or (drop at tms) k 0) 48 (run_bytes is_zero (drop at tms) k (omega arith))) stays }
+pub zeros_end : (s at last : ℕ) (tms : Bytes) → next_number s false ≡ s → last ≡ at + run_length is_zero (drop at tms) → at < length tms → EndsStretch s tms at (min (last + 1) (length tms))
+zeros_end s at last tms stays is more =
+    record { some_clock = omega arith; within = omega arith; stays = λ k h. rw (eqb-true (get_or (drop at tms) k 0) 48 (run_bytes is_zero (drop at tms) k (omega arith))) stays }
 
 -- its clocks, with the state that the last one leads to
 pub stretch_of : (s at end t : ℕ) (tms : Bytes) → EndsStretch s tms at end → t ≡ next_number s (is_one (get_or tms (end - 1) 0)) → IsStretch s (drop at tms) (end - at) t
@@ -166,9 +140,6 @@ pub record WrittenTo (state₀ at₀ : ℕ) (tms tdi plan₀ plan : Bytes) (stat
   pub leads : state_after (state_at state) (map is_one (drop i tms)) ≡ state_after (state_at state₀) (map is_one tms)
   pub behind : at + length (rest_text state i tms tdi) ≡ at₀ + length (added_text (state_at state₀) (clocks_from tms tdi))
   pub left : write_at at (rest_text state i tms tdi) plan ≡ write_at at₀ (added_text (state_at state₀) (clocks_from tms tdi)) plan₀
-
-pub written_start : (state at : ℕ) (tms tdi plan : Bytes) → state < 16 → WrittenTo state at tms tdi plan plan state at 0
-written_start state at tms tdi plan small = record { within = omega arith; small = small; size = refl; leads = refl; behind = refl; left = refl }
 
 -- the bits of the clocks from clock i on up to an end
 abbrev pub bits_from : ℕ → ℕ → Bytes → Bytes

@@ -1,21 +1,15 @@
 -- The counts that a text of clocks may be refused for, by TMS alone; proofs/Counts.antt has why they are the follower's.
 -- Assumes nothing.
 use Rattle.std.specs.Prelude.{◌≡◌, Bool, false, cond, ◌||◌, List, [], ◌∷◌, ℕ, ◌+◌, ◌*◌, eqb, ltb}
-use Rattle.std.proofs.Math.Option.{Option, none, some}
+use Rattle.std.specs.Prelude.{Option, None as none, Some as some}
 use Rattle.model.specs.Limits.{max_operations, max_plan_bytes}
 use Rattle.model.specs.Tap.{captureDR, shiftDR, selectIR, state_number}
 use Rattle.recover_model.specs.RecoverCalls.{Progress}
-use Rattle.clock_writer.specs.Machine.{next_number}
+use Rattle.clock_writer.specs.Machine.{state_code, next_number}
 use Rattle.clock_follower.specs.declared.Progress.{Progress as Kept}
-use Rattle.clock_follower.specs.declared.Followed.{Followed}
-use Rattle.clock_follower.specs.declared.Followed.TheVariants.{To, Offends}
 
 abbrev pub progress_for : Kept → Progress
-progress_for p = record { lines = p.lines; state = p.state; entries = p.entries; plan_bytes = p.bytes }
-
-abbrev pub followed_for : Followed → Option Progress
-followed_for (To p) = some (progress_for p)
-followed_for Offends = none
+progress_for p = record { lines = p.lines; state = state_code p.state; entries = p.entries; plan_bytes = p.bytes }
 
 -- after so many clocks in its state, the last of which leads to state t: "5 for each entry, 1 for each bit"
 abbrev pub moved_on : Progress → ℕ → ℕ → Progress

@@ -1,7 +1,7 @@
 -- Clocks that leave the state as it is, taken at once, and what they add to the plan's text.
 -- Assumes nothing.
 use Rattle.std.specs.Prelude.{◌≡◌, cond, List, [], ◌∷◌, ◌++◌, map, ℕ, suc, ◌+◌, ◌≤◌, ◌<◌, length, drop, get_or, eqb}
-use Rattle.std.proofs.Math.Option.{Option, some}
+use Rattle.std.specs.Prelude.{Option, Some as some}
 use Rattle.model.specs.Text.{Bytes, bytes, line_end}
 use Rattle.model.specs.Tap.{captureDR, shiftDR, updateDR, state_at, state_number, Clock, clk, bit_byte}
 use Rattle.recover_model.specs.RecoverCalls.{Progress, under_way, added_text}

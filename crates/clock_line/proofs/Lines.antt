@@ -2,26 +2,29 @@
 -- Assumes nothing.
 use mathlib.Core.Path.{◌≡◌, refl, sym, ap, ◌∙◌, subst}
 use mathlib.Core.Bool.{Bool, true, false}
-use mathlib.Core.Option.{Option, none, some}
+use Rattle.std.specs.Prelude.{Option, None as none, Some as some, option_map, Decides}
+use Rattle.std.specs.List.{starts_with}
+use Rattle.std.specs.Option.{is_some}
+use Rattle.std.proofs.lemmas.Slice.Eq.{slice_eq-Decides}
+use Rattle.std.proofs.lemmas.Bool.Decides.{Decides-eqb}
 use mathlib.Core.List.{List, [], ◌∷◌, ◌++◌, map, append-nil}
 use Prim.Native.Nat.{ℕ, suc, ◌+◌, ◌≤◌, ◌<◌}
 use native.Mathlib.Omega.{arith}
 use lib.ListN.{length, take, drop, get_or, length-map, length-drop, take-append-drop}
-use lib.Dec.{leb, ltb}
+use lib.Dec.{eqb, leb, ltb}
 use lib.Seq.{drop-cons, drop-drop, drop_at, take_at, get_or_at, get_or-drop, take_all}
 use borrow.Author.Tests.{ltb-true, ltb-false, leb-false}
 use Rattle.model.specs.Printed.{pins}
 use Rattle.model.specs.Tap.{Clock, clk, bit_byte}
-use Rattle.model.specs.Text.{Bytes, bytes, tab, same}
-use Rattle.model.proofs.Lists.{true_false}
-use Rattle.model.proofs.PlanTexts.{same_is}
+use Rattle.model.specs.Text.{Bytes, bytes, tab}
+use Rattle.model.proofs.Lists.{true_false, none_some, some_same}
 use Rattle.recover_model.specs.ClockText.{clk_line, max_line_bytes}
 use Rattle.recover_model.proofs.ClockLines.{tms_of, tdi_of, clk_text, length_clk, length_pins, pins_map, clk_written, clk_text_law}
 use Rattle.text_runs.specs.Runs.{in_run, run_length}
 use Rattle.text_runs.proofs.RunLaws.{run_within, run_bytes}
 use Rattle.plan_text.specs.Lines.{bit_run}
 use Rattle.plan_text.proofs.Bits.{run_is, run_front}
-use Rattle.clock_line.specs.Line.{clock_count, FitsClocks}
+use Rattle.clock_line.specs.Line.{FitsClocks}
 
 -- ---- a line of good form
 
@@ -52,7 +55,7 @@ rows_of l cs e = rw (clk_text_law l cs e).text (written_rows cs)
 
 -- what the code tests of a line of n clocks
 pub record Tested (l : Bytes) (n : ℕ) : Type 0 where
-  pub word : same (take 4 l) (bytes "clk\t") ≡ true
+  pub word : take 4 l ≡ bytes "clk\t"
   pub tms : length (bit_run (drop 4 l)) ≡ n
   pub middle : get_or l (4 + n) 0 ≡ tab
   pub tdi : length (bit_run (drop (4 + n + 1) l)) ≡ n
@@ -66,7 +69,7 @@ run_exact good t n h stop = go (ltb n (run_length good t)) refl
     go false e = omega (arith, ltb-false n (run_length good t) e)
 
 -- the tests as the code makes them
-pub passed : (l : Bytes) (n : ℕ) → length l ≡ 5 + (n + n) → same (take 4 l) (bytes "clk\t") ≡ true → get_or l (4 + n) 0 ≡ tab
+pub passed : (l : Bytes) (n : ℕ) → length l ≡ 5 + (n + n) → take 4 l ≡ bytes "clk\t" → get_or l (4 + n) 0 ≡ tab
     → n ≤ run_length (in_run 49) (drop 4 l) → n ≤ run_length (in_run 49) (drop (4 + n + 1) l) → Tested l n
 passed l n long word middle tms tdi = record {
   word = word;
@@ -97,7 +100,7 @@ pins_run : (pin : Clock → Bool) (cs : List Clock) (t : Bytes) → bit_run t �
 pins_run pin cs t e = ap (λ (l : Bytes). length (bit_run (l ++ t))) (pins_map pin cs) ∙ ap length (bits_run (map pin cs) t e) ∙ length-map cs pin
 
 written_tested : (cs : List Clock) → Tested (clk_text cs) (length cs)
-unfolding bit_run same
+unfolding bit_run
 written_tested cs = record {
   word = refl;
   tms = pins_run tms_of cs (tab ∷ pins tdi_of cs) refl;
@@ -105,22 +108,34 @@ written_tested cs = record {
   tdi = ap (λ (l : Bytes). length (bit_run l)) (behind_middle (clk_text cs) (length cs) ∙ (written_rows cs).tdi ∙ sym (append-nil (pins tdi_of cs))) ∙ pins_run tdi_of cs [] refl;
 }
 
+-- the word as the code tests it
+word_is : (l : Bytes) (r : Bool) → r ≡ starts_with eqb l (bytes "clk\t") → Decides r (bytes "clk\t" ≡ take 4 l)
+word_is l r e = slice_eq-Decides Decides-eqb (bytes "clk\t") (take 4 l) r e
+
+pub word_here : (l : Bytes) (r : Bool) → r ≡ starts_with eqb l (bytes "clk\t") → r ≡ true → take 4 l ≡ bytes "clk\t"
+word_here l r e t = sym ((word_is l r e).0 t)
+
+pub no_word : (l : Bytes) (n : ℕ) (r : Bool) → r ≡ starts_with eqb l (bytes "clk\t") → r ≡ false → Tested l n → ⊥
+no_word l n r e f t = true_false (sym ((word_is l r e).1 (sym t.word)) ∙ f)
+
 -- ---- no clocks
 
-no_clocks : (o : Option (List Clock)) → ((cs : List Clock) → o ≡ some cs → ⊥) → 0 ≡ clock_count o
+no_clocks : (o : Option (List Clock)) → ((cs : List Clock) → o ≡ some cs → ⊥) → none ≡ option_map length o
 no_clocks none f = refl
 no_clocks (some cs) f = absurd (f cs refl)
 
-module _ (l : Bytes) (n : ℕ) (room : FitsClocks (length l) n) where
+pub no_room : (l : Bytes) → FitsClocks (length l) none → none ≡ option_map length (clk_line l)
+no_room l room = no_clocks (clk_line l) (λ cs e.
+    let t = clk_text_law l cs e in
+    none_some _ (room.only (length cs) t.some_clock (ap length t.text ∙ length_clk cs) t.short))
+
+module _ (l : Bytes) (n : ℕ) (room : FitsClocks (length l) (some n)) where
   as_many : (cs : List Clock) → clk_line l ≡ some cs → length cs ≡ n
   as_many cs e =
       let t = clk_text_law l cs e in
-      room.only (length cs) t.some_clock (ap length t.text ∙ length_clk cs) t.short
+      sym (some_same _ _ (room.only (length cs) t.some_clock (ap length t.text ∙ length_clk cs) t.short))
 
-  pub no_room : n ≡ 0 → 0 ≡ clock_count (clk_line l)
-  no_room z = no_clocks (clk_line l) (λ cs e. omega (arith, (clk_text_law l cs e).some_clock, as_many cs e))
-
-  pub not_tested : (Tested l n → ⊥) → 0 ≡ clock_count (clk_line l)
+  pub not_tested : (Tested l n → ⊥) → none ≡ option_map length (clk_line l)
   not_tested f = no_clocks (clk_line l) (λ cs e. f (subst (Tested l) (as_many cs e) (rw (clk_text_law l cs e).text (written_tested cs))))
 
 -- ---- clocks
@@ -167,14 +182,14 @@ module _ (l : Bytes) (n : ℕ) (fits : length l ≡ 5 + (n + n)) (short : length
       let r = together_rows ms ds (good.tms ∙ sym tdi_count) in
       let a : map bit_byte ms ≡ pins tms_of (together ms ds) = ap (map bit_byte) (sym r.0) ∙ sym (pins_map tms_of (together ms ds)) in
       let b : map bit_byte ds ≡ pins tdi_of (together ms ds) = ap (map bit_byte) (sym r.1) ∙ sym (pins_map tdi_of (together ms ds)) in
-      sym (take-append-drop 4 l) ∙ ap (λ (x : Bytes). x ++ drop 4 l) (same_is (take 4 l) (bytes "clk\t") good.word)
+      sym (take-append-drop 4 l) ∙ ap (λ (x : Bytes). x ++ drop 4 l) good.word
       ∙ ap (λ (x : Bytes). bytes "clk\t" ++ x) (behind_word ∙ ap (λ (x : Bytes). x ++ tab ∷ map bit_byte ds) a ∙ ap (λ (x : Bytes). pins tms_of (together ms ds) ++ tab ∷ x) b)
 
   count_is : length (together ms ds) ≡ n
   count_is = omega (arith, fits, ap length whole ∙ length_clk (together ms ds))
 
-  pub counted : n ≡ clock_count (clk_line l)
-  counted = sym (ap clock_count (clk_written l (together ms ds) record { text = whole; some_clock = omega (arith, count_is); short = short }) ∙ count_is)
+  pub counted : some n ≡ option_map length (clk_line l)
+  counted = sym (ap (option_map length) (clk_written l (together ms ds) record { text = whole; some_clock = omega (arith, count_is); short = short }) ∙ ap some count_is)
 
 -- ---- by its count
 
@@ -193,16 +208,21 @@ has_clocks l n cs e m =
     let r = rows_of l cs e in
     record { clocks = cs; good = e; tms = rw m at r.tms; tdi = rw m at r.tdi; length_is = rw m at r.length_is; short = (clk_text_law l cs e).short; count = m }
 
-pub counted_clocks : (l : Bytes) (n : ℕ) → n ≡ clock_count (clk_line l) → (n ≡ 0 → ⊥) → HasClocks l n
-counted_clocks l n e some_clock = go (clk_line l) refl e
+pub counted_clocks : (l : Bytes) (n : ℕ) → some n ≡ option_map length (clk_line l) → HasClocks l n
+counted_clocks l n e = go (clk_line l) refl e
   where
-    go : (o : Option (List Clock)) → clk_line l ≡ o → n ≡ clock_count o → HasClocks l n
-    go none q c = absurd (some_clock c)
-    go (some cs) q c = has_clocks l n cs q (sym c)
+    go : (o : Option (List Clock)) → clk_line l ≡ o → some n ≡ option_map length o → HasClocks l n
+    go none q c = absurd (none_some n (sym c))
+    go (some cs) q c = has_clocks l n cs q (sym (some_same _ _ c))
 
-pub uncounted : (l : Bytes) → 0 ≡ clock_count (clk_line l) → clk_line l ≡ none
+-- one where a count is known
+pub some_clocks : (l : Bytes) (o : Option ℕ) → true ≡ is_some o → o ≡ option_map length (clk_line l) → (n : ℕ) × HasClocks l n
+some_clocks l none t e = absurd (true_false t)
+some_clocks l (some n) t e = (n, counted_clocks l n e)
+
+pub uncounted : (l : Bytes) → none ≡ option_map length (clk_line l) → clk_line l ≡ none
 uncounted l e = go (clk_line l) refl e
   where
-    go : (o : Option (List Clock)) → clk_line l ≡ o → 0 ≡ clock_count o → o ≡ none
+    go : (o : Option (List Clock)) → clk_line l ≡ o → none ≡ option_map length o → o ≡ none
     go none q c = refl
-    go (some cs) q c = absurd (omega (arith, (clk_text_law l cs q).some_clock))
+    go (some cs) q c = absurd (none_some _ c)

@@ -1,39 +1,43 @@
--- The clock writer's answer in each case: 14, then 13, then the clocks.
+-- The clock writer's answer in each case: the text's refusal, then 13, then the clocks.
 -- Assumes nothing.
 use mathlib.Core.Path.{◌≡◌, refl, sym, ap, ◌∙◌}
+use mathlib.Core.Logic.{◌⊎◌, inl, inr}
 use mathlib.Core.List.{List}
+use Rattle.std.specs.Prelude.{Result as Answer, Ok, Err}
 use Prim.Native.Nat.{ℕ, ◌≤◌, ◌<◌}
 use native.Mathlib.Omega.{arith}
 use lib.ListN.{length, length-map}
 use borrow.Author.Tests.{lt-ltb, le-ltb}
 use Rattle.model.specs.Result.{Result, ok, refused, and_then}
+use Rattle.model.specs.Refusals.{buffer}
+use Rattle.model.specs.Answers.{number_of, count_of}
+use Rattle.model.specs.declared.refusal.Kind.TheVariants.{Buffer}
+use Rattle.model.specs.declared.refusal.Refusal.{Refusal}
 use Rattle.model.specs.Text.{Bytes}
 use Rattle.model.specs.Plan.{Plan}
 use Rattle.model.specs.PlanText.{read_plan}
 use Rattle.model.specs.Tap.{Clock, plan_clocks, bit_byte}
-use Rattle.model.specs.Calls.{written, count_of, clocks_of, if_room, clocks_written, row_of, write_clocks}
+use Rattle.model.specs.Calls.{written, count_of as bytes_of, clocks_of, if_room, clocks_written, row_of, write_clocks}
 use Rattle.model.proofs.Lists.{not_ok, ok_is, handed}
 use Rattle.model.proofs.CallCases.{Room, short as short-room, enough_room, room_case}
 use Rattle.model.proofs.PlanTexts.{text_of, clocks_bytes}
-use Rattle.clock_writer.specs.declared.Written.{Written}
-use Rattle.clock_writer.specs.declared.Written.TheVariants.{Clocks, Refused}
-use Rattle.clock_writer.specs.Clocks.{written_answer, WroteClocks}
+use Rattle.clock_writer.specs.Clocks.{WroteClocks}
 use Rattle.clock_writer.proofs.Rows.{row_bytes, row_length}
 
 module _ (p : Bytes) (tms tdi : List ℕ) where
   -- by the clocks written, for these lengths
-  by_clocks : (cs : Result (List Clock)) → clocks_written p (length tms) (length tdi) ≡ cs → (w : Written) → written_answer w ≡ count_of (row_of (λ c. c.tms) cs)
+  by_clocks : (cs : Result (List Clock)) → clocks_written p (length tms) (length tdi) ≡ cs → (w : Answer ℕ Refusal) → count_of w ≡ bytes_of (row_of (λ c. c.tms) cs)
       → WroteClocks p tms tdi w (written (row_of (λ c. c.tms) cs) tms) (written (row_of (λ c. c.tdi) cs) tdi)
   unfolding write_clocks
   by_clocks cs e w is = record {
-    result = is ∙ ap (λ (x : Result (List Clock)). count_of (row_of (λ c. c.tms) x)) (sym e);
+    result = is ∙ ap (λ (x : Result (List Clock)). bytes_of (row_of (λ c. c.tms) x)) (sym e);
     tms_left = ap (λ (x : Result (List Clock)). written (row_of (λ c. c.tms) x) tms) (sym e);
     tdi_left = ap (λ (x : Result (List Clock)). written (row_of (λ c. c.tdi) x) tdi) (sym e);
   }
 
-  pub bad_form : (place : ℕ) → read_plan p ≡ refused 14 place → WroteClocks p tms tdi (Refused 14 place) tms tdi
+  pub bad_form : (r : Refusal) → read_plan p ≡ refused (number_of r.kind) r.place → WroteClocks p tms tdi (Err r) tms tdi
   unfolding clocks_written clocks_of
-  bad_form place e = by_clocks (refused 14 place) (rw e) (Refused 14 place) refl
+  bad_form r e = by_clocks (refused (number_of r.kind) r.place) (rw e) (Err r) refl
 
   module _ (plan : Plan) (reads : read_plan p ≡ ok plan) where
     as_long : length (plan_clocks plan) ≡ length p
@@ -47,30 +51,29 @@ module _ (p : Bytes) (tms tdi : List ℕ) where
     unfolding clocks_written clocks_of
     by_room = rw reads
 
-    short : clocks_written p (length tms) (length tdi) ≡ refused 13 (length (plan_clocks plan)) → WroteClocks p tms tdi (Refused 13 (length p)) tms tdi
-    short e = by_clocks (refused 13 (length p)) (e ∙ ap (refused 13) as_long) (Refused 13 (length p)) refl
+    room : length p ≤ length tms → if_room (length tms) (plan_clocks plan) ≡ ok (plan_clocks plan)
+    room h = rw (le-ltb (length tms) (length (plan_clocks plan)) (omega (arith, as_long)))
 
-    pub short_tms : length tms < length p → WroteClocks p tms tdi (Refused 13 (length p)) tms tdi
-    short_tms h = short (by_room ∙ rw (lt-ltb (length tms) (length (plan_clocks plan)) (omega (arith, as_long))))
+    -- one of the buffers too short
+    pub short : (length tms < length p) ⊎ ((length p ≤ length tms) × (length tdi < length p)) → WroteClocks p tms tdi (Err record { kind = Buffer; place = length p }) tms tdi
+    short less = by_clocks (refused buffer (length p)) (by_room ∙ which less ∙ ap (refused buffer) as_long) (Err record { kind = Buffer; place = length p }) refl
+      where
+        which : (length tms < length p) ⊎ ((length p ≤ length tms) × (length tdi < length p))
+            → and_then (if_room (length tms) (plan_clocks plan)) (if_room (length tdi)) ≡ refused buffer (length (plan_clocks plan))
+        which (inl h) = rw (lt-ltb (length tms) (length (plan_clocks plan)) (omega (arith, as_long)))
+        which (inr h) = rw (room h.0) (rw (lt-ltb (length tdi) (length (plan_clocks plan)) (omega (arith, as_long))))
 
-    module _ (tms-fits : length p ≤ length tms) where
-      room : if_room (length tms) (plan_clocks plan) ≡ ok (plan_clocks plan)
-      room = rw (le-ltb (length tms) (length (plan_clocks plan)) (omega (arith, as_long)))
-
-      pub short_tdi : length tdi < length p → WroteClocks p tms tdi (Refused 13 (length p)) tms tdi
-      short_tdi h = short (by_room ∙ rw room (rw (lt-ltb (length tdi) (length (plan_clocks plan)) (omega (arith, as_long)))))
-
-      pub all_written : length p ≤ length tdi → (tms' tdi' : List ℕ) → tms' ≡ written (row_of (λ c. c.tms) (clocks_of p)) tms
-          → tdi' ≡ written (row_of (λ c. c.tdi) (clocks_of p)) tdi → WroteClocks p tms tdi (Clocks (length p)) tms' tdi'
-      all_written h tms' tdi' e f =
-          let cs = plan_clocks plan in
-          let n : length (row_bytes (λ c. c.tms) cs) ≡ length p = row_length (λ c. c.tms) plan ∙ ap length (sym (text_of p plan reads).text) in
-          let a = by_clocks (ok cs) (by_room ∙ rw room (rw (le-ltb (length tdi) (length cs) (omega (arith, as_long))))) (Clocks (length p)) (ap ok (sym n)) in
-          record {
-            result = a.result;
-            tms_left = e ∙ ap (λ (x : Result (List Clock)). written (row_of (λ c. c.tms) x) tms) its_clocks ∙ a.tms_left;
-            tdi_left = f ∙ ap (λ (x : Result (List Clock)). written (row_of (λ c. c.tdi) x) tdi) its_clocks ∙ a.tdi_left;
-          }
+    pub all_written : length p ≤ length tms → length p ≤ length tdi → (tms' tdi' : List ℕ) → tms' ≡ written (row_of (λ c. c.tms) (clocks_of p)) tms
+        → tdi' ≡ written (row_of (λ c. c.tdi) (clocks_of p)) tdi → WroteClocks p tms tdi (Ok (length p)) tms' tdi'
+    all_written k h tms' tdi' e f =
+        let cs = plan_clocks plan in
+        let n : length (row_bytes (λ c. c.tms) cs) ≡ length p = row_length (λ c. c.tms) plan ∙ ap length (sym (text_of p plan reads).text) in
+        let a = by_clocks (ok cs) (by_room ∙ rw (room k) (rw (le-ltb (length tdi) (length cs) (omega (arith, as_long))))) (Ok (length p)) (ap ok (sym n)) in
+        record {
+          result = a.result;
+          tms_left = e ∙ ap (λ (x : Result (List Clock)). written (row_of (λ c. c.tms) x) tms) its_clocks ∙ a.tms_left;
+          tdi_left = f ∙ ap (λ (x : Result (List Clock)). written (row_of (λ c. c.tdi) x) tdi) its_clocks ∙ a.tdi_left;
+        }
 
 -- ---- for callers: what a count says
 
@@ -92,7 +95,7 @@ pub count_says : (p : Bytes) (tms tdi : List ℕ) (count : ℕ) → (write_clock
 unfolding write_clocks clocks_written clocks_of
 count_says p tms tdi count e = go (clocks_written p (length tms) (length tdi)) refl e
   where
-    go : (cs : Result (List Clock)) → clocks_written p (length tms) (length tdi) ≡ cs → count_of (row_of (λ c. c.tms) cs) ≡ ok count → Wrote p tms tdi count
+    go : (cs : Result (List Clock)) → clocks_written p (length tms) (length tdi) ≡ cs → bytes_of (row_of (λ c. c.tms) cs) ≡ ok count → Wrote p tms tdi count
     go (refused number place) f g = absurd (not_ok g)
     go (ok cs) f g =
         let a = handed (and_then (clocks_of p) (if_room (length tms))) (if_room (length tdi)) cs f in

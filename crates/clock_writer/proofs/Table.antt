@@ -1,18 +1,21 @@
 -- The controller's table: its rule, and the clock machine over it, clock by clock.
 -- Assumes nothing.
 use mathlib.Core.Path.{◌≡◌, refl, sym, ap, ◌∙◌}
-use mathlib.Core.Bool.{Bool, true, false, cond}
+use mathlib.Core.Bool.{false}
 use mathlib.Core.List.{List, [], ◌∷◌, map}
-use Prim.Native.Nat.{ℕ, zero, suc, ◌+◌, ◌≤◌, ◌<◌}
-use native.Mathlib.Nat.{zero-add, le_of_suc-le-suc, not-suc-le-zero}
+use Prim.Native.Nat.{ℕ, ◌+◌, ◌≤◌, ◌<◌}
+use native.Mathlib.Nat.{zero-add}
 use native.Mathlib.Numerals.{add-one}
 use lib.ListN.{length, get_or, drop, drop_of_length-le, get_or-map}
 use lib.Seq.{drop-cons}
-use lib.Dec.{lit<}
+use lib.Dec.{eqb, lit<}
+use borrow.Author.Tests.{ne_eqb}
 use Rattle.model.specs.Tap.{Tap, reset, idle, selectDR, captureDR, shiftDR, exit1DR, pauseDR, exit2DR, updateDR, selectIR, captureIR, shiftIR, exit1IR, pauseIR, exit2IR, updateIR, next, states, state_at, state_number, state_after}
 use Rattle.model.specs.Text.{Bytes}
 use Rattle.model.proofs.Lists.{get_d_tabulate}
-use Rattle.clock_writer.specs.Machine.{is_one, column_of, next_number}
+use Rattle.clock_writer.specs.declared.State.{State}
+use Rattle.clock_writer.specs.declared.State.TheVariants.{TestLogicReset, RunTestIdle, SelectDR, CaptureDR, ShiftDR, Exit1DR, PauseDR, Exit2DR, UpdateDR, SelectIR, CaptureIR, ShiftIR, Exit1IR, PauseIR, Exit2IR, UpdateIR}
+use Rattle.clock_writer.specs.Machine.{is_one, state_code, next_number}
 
 -- ---- the states and their numbers
 
@@ -37,36 +40,39 @@ numbered pauseIR = (lit< tt, refl)
 numbered exit2IR = (lit< tt, refl)
 numbered updateIR = (lit< tt, refl)
 
--- ---- the table
+-- ---- the code's states and their numbers
 
-abbrev row_for : Tap → List ℕ
-row_for t = state_number (next t false) ∷ state_number (next t true) ∷ []
+abbrev in_order : List State
+in_order =
+    TestLogicReset ∷ RunTestIdle ∷ SelectDR ∷ CaptureDR ∷ ShiftDR ∷ Exit1DR ∷ PauseDR ∷ Exit2DR ∷ UpdateDR
+    ∷ SelectIR ∷ CaptureIR ∷ ShiftIR ∷ Exit1IR ∷ PauseIR ∷ Exit2IR ∷ UpdateIR ∷ []
 
--- the table by its rule; the proof of `next_state` compares it with `NEXT`
-abbrev pub table : List (List ℕ)
-table = map row_for states
+coded : (s : State) → (state_code s < 16) × (get_or in_order (state_code s) TestLogicReset ≡ s)
+coded TestLogicReset = (lit< tt, refl)
+coded RunTestIdle = (lit< tt, refl)
+coded SelectDR = (lit< tt, refl)
+coded CaptureDR = (lit< tt, refl)
+coded ShiftDR = (lit< tt, refl)
+coded Exit1DR = (lit< tt, refl)
+coded PauseDR = (lit< tt, refl)
+coded Exit2DR = (lit< tt, refl)
+coded UpdateDR = (lit< tt, refl)
+coded SelectIR = (lit< tt, refl)
+coded CaptureIR = (lit< tt, refl)
+coded ShiftIR = (lit< tt, refl)
+coded Exit1IR = (lit< tt, refl)
+coded PauseIR = (lit< tt, refl)
+coded Exit2IR = (lit< tt, refl)
+coded UpdateIR = (lit< tt, refl)
 
-get_d_inside : {A : Type 0} (l : List A) (n : ℕ) (d e : A) → n < length l → get_or l n d ≡ get_or l n e
-get_d_inside [] n d e h = absurd (not-suc-le-zero h)
-get_d_inside (a ∷ l) zero d e h = refl
-get_d_inside (a ∷ l) (suc n) d e h = get_d_inside l n d e (le_of_suc-le-suc h)
+pub code_small : (s : State) → state_code s < 16
+code_small s = (coded s).0
 
-by_column : (t : Tap) (m : Bool) → get_or (row_for t) (cond m 1 0) 0 ≡ state_number (next t m)
-by_column t true = refl
-by_column t false = refl
+pub code_same : (s t : State) → state_code s ≡ state_code t → s ≡ t
+code_same s t e = sym (coded s).1 ∙ ap (λ (n : ℕ). get_or in_order n TestLogicReset) e ∙ (coded t).1
 
--- the rule at each entry
-pub table_at : (s b : ℕ) → s < 16 → get_or (get_or table s []) (column_of b) 0 ≡ next_number s (is_one b)
-table_at s b h =
-    ap (λ (r : List ℕ). get_or r (column_of b) 0) (get_d_inside table s [] (row_for reset) h ∙ get_or-map row_for states s reset)
-    ∙ by_column (state_at s) (is_one b)
-
-pub column_small : (b : ℕ) → column_of b < 2
-column_small b = go (is_one b)
-  where
-    go : (m : Bool) → cond m 1 0 < 2
-    go true = lit< tt
-    go false = lit< tt
+pub code_other : (s t : State) → (s ≡ t → ⊥) → eqb (state_code s) (state_code t) ≡ false
+code_other s t f = ne_eqb (state_code s) (state_code t) (λ e. f (code_same s t e))
 
 -- ---- the state s from clock i on, where t is the last state
 
@@ -77,8 +83,8 @@ module _ (tms : Bytes) (s i : ℕ) (t : Tap) (whole : state_after (state_at s) (
       let e : state_after (state_at s) (map is_one (drop i tms)) ≡ state_at s = rw (drop_of_length-le tms l) in
       sym (number_at s h) ∙ ap state_number (sym e ∙ whole)
 
-  pub run_next : (r : ℕ) → i < length tms → r ≡ next_number s (is_one (get_or tms i 0)) → (r < 16) × (state_after (state_at r) (map is_one (drop (i + 1) tms)) ≡ t)
+  pub run_next : (r : ℕ) → i < length tms → r ≡ next_number s (is_one (get_or tms i 0)) → state_after (state_at r) (map is_one (drop (i + 1) tms)) ≡ t
   unfolding state_after
   run_next r l e =
       let n = numbered (next (state_at s) (is_one (get_or tms i 0))) in
-      (rw e n.0, rw (e, n.1, add-one) (sym (rw (drop-cons tms i 0 l)) ∙ whole))
+      rw (e, n.1, add-one) (sym (rw (drop-cons tms i 0 l)) ∙ whole)

@@ -1,11 +1,11 @@
 -- The bytes of an operation's clocks, and what the clock writer answers and leaves.
 -- Assumes nothing.
 use Rattle.std.specs.Prelude.{◌≡◌, List, ◌++◌, ℕ, zero, suc, replicate}
-use Rattle.model.specs.Result.{Result, ok, refused}
+use Rattle.std.specs.Prelude.{Result as Answer}
+use Rattle.model.specs.Answers.{count_of}
 use Rattle.model.specs.Text.{Bytes, bytes}
 use Rattle.model.specs.Calls.{write_clocks}
-use Rattle.clock_writer.specs.declared.Written.{Written}
-use Rattle.clock_writer.specs.declared.Written.TheVariants.{Clocks, Refused}
+use Rattle.model.specs.declared.refusal.Refusal.{Refusal}
 
 -- "TMS 1, 0, 0, then n - 1 zeros and a 1, then 1, 0; for n = 0: 1, 0, 1, 1, 0."
 abbrev pub tms_bytes : ℕ → Bytes
@@ -16,13 +16,8 @@ tms_bytes (suc n) = bytes "100" ++ (replicate n 48 ++ bytes "110")
 abbrev pub tdi_bytes : Bytes → Bytes
 tdi_bytes bits = bytes "000" ++ (bits ++ bytes "00")
 
--- number and values of each case
-abbrev pub written_answer : Written → Result ℕ
-written_answer (Clocks count) = ok count
-written_answer (Refused number place) = refused number place
-
 -- `write_clocks` returned w for a plan text, and left the buffers tms and tdi as tms' and tdi'
-pub record WroteClocks (p : Bytes) (tms tdi : List ℕ) (w : Written) (tms' tdi' : List ℕ) : Type 0 where
-  pub result : written_answer w ≡ (write_clocks p tms tdi).result
+pub record WroteClocks (p : Bytes) (tms tdi : List ℕ) (w : Answer ℕ Refusal) (tms' tdi' : List ℕ) : Type 0 where
+  pub result : count_of w ≡ (write_clocks p tms tdi).result
   pub tms_left : tms' ≡ (write_clocks p tms tdi).tms
   pub tdi_left : tdi' ≡ (write_clocks p tms tdi).tdi

@@ -1,77 +1,109 @@
 // The test access port (TAP): the controller's table, the clock machine and the clock writer.
 #![tactic(auto)]
 
-ghost use Rattle.std.specs.Prelude.{◌≡◌, ◌+◌, ◌≤◌, ◌<◌, length};
+ghost use Rattle.std.specs.Prelude.{◌≡◌, cond, option_map, ◌+◌, ◌≤◌, length, ltb};
 ghost use Rattle.model.specs.Calls.{clocks_of, row_of, written};
 ghost use Rattle.plan_text.specs.Form.{HasForm};
 ghost use Rattle.plan_text.specs.Writing.{write_at};
-ghost use Rattle.clock_writer.specs.Machine.{column_of, is_one, next_number, RunReturned};
+ghost use Rattle.clock_writer.specs.Machine.{state_code, is_one, next_number, RunReturned};
 ghost use Rattle.clock_writer.specs.Clocks.{tms_bytes, tdi_bytes, WroteClocks};
 
-use model::refusal;
-use plan_text::Form;
+use model::refusal::{Kind, Refusal};
+use plan_text::check_form;
 
-// The next state for TMS 0 and for TMS 1 of each state: 0 Test-Logic-Reset, 1 Run-Test/Idle, 2 Select-DR, 3 Capture-DR,
-// 4 Shift-DR, 5 Exit1-DR, 6 Pause-DR, 7 Exit2-DR, 8 Update-DR, 9 Select-IR, 10 Capture-IR, 11 Shift-IR, 12 Exit1-IR,
-// 13 Pause-IR, 14 Exit2-IR, 15 Update-IR.
-const NEXT: [[u8; 2]; 16] = [
-    [1, 0],
-    [1, 2],
-    [3, 9],
-    [4, 5],
-    [4, 5],
-    [6, 8],
-    [6, 7],
-    [4, 8],
-    [1, 2],
-    [10, 0],
-    [11, 12],
-    [11, 12],
-    [13, 15],
-    [13, 14],
-    [11, 15],
-    [1, 2],
-];
-
-// Run-Test/Idle.
-pub const IDLE: u8 = 1;
-
-// What the clock writer answers: the count of clocks written, or a refusal's number and place.
-#[derive(Drop)]
-pub enum Written {
-    Clocks(usize),
-    Refused(usize, usize),
+// The controller's states, by their numbers.
+#[derive(Clone, Copy, PartialEq, Eq)]
+pub enum State {
+    TestLogicReset,
+    RunTestIdle,
+    SelectDR,
+    CaptureDR,
+    ShiftDR,
+    Exit1DR,
+    PauseDR,
+    Exit2DR,
+    UpdateDR,
+    SelectIR,
+    CaptureIR,
+    ShiftIR,
+    Exit1IR,
+    PauseIR,
+    Exit2IR,
+    UpdateIR,
 }
 
-// The table's column for a TMS byte: 1 for `1`, else 0.
-fn column(tms: u8) -> usize
-    ensures { result ≡ column_of tms }
-{
-    if tms == b'1' { 1 } else { 0 }
+// All of them, in the order of their numbers.
+pub const STATES: [State; 16] = [
+    State::TestLogicReset,
+    State::RunTestIdle,
+    State::SelectDR,
+    State::CaptureDR,
+    State::ShiftDR,
+    State::Exit1DR,
+    State::PauseDR,
+    State::Exit2DR,
+    State::UpdateDR,
+    State::SelectIR,
+    State::CaptureIR,
+    State::ShiftIR,
+    State::Exit1IR,
+    State::PauseIR,
+    State::Exit2IR,
+    State::UpdateIR,
+];
+
+// The next state for TMS 0 and for TMS 1 of each state.
+const NEXT: [[State; 2]; 16] = [
+    [State::RunTestIdle, State::TestLogicReset],
+    [State::RunTestIdle, State::SelectDR],
+    [State::CaptureDR, State::SelectIR],
+    [State::ShiftDR, State::Exit1DR],
+    [State::ShiftDR, State::Exit1DR],
+    [State::PauseDR, State::UpdateDR],
+    [State::PauseDR, State::Exit2DR],
+    [State::ShiftDR, State::UpdateDR],
+    [State::RunTestIdle, State::SelectDR],
+    [State::CaptureIR, State::TestLogicReset],
+    [State::ShiftIR, State::Exit1IR],
+    [State::ShiftIR, State::Exit1IR],
+    [State::PauseIR, State::UpdateIR],
+    [State::PauseIR, State::Exit2IR],
+    [State::ShiftIR, State::UpdateIR],
+    [State::RunTestIdle, State::SelectDR],
+];
+
+impl State {
+    // The state's number, 0 to 15.
+    pub fn number(self) -> usize
+        ensures { result ≡ state_code self }
+    {
+        self as usize
+    }
+
+    // The state of a number.
+    pub fn from_number(number: usize) -> Option<State>
+        ensures { option_map state_code result ≡ cond (ltb number 16) (Some number) None }
+    {
+        STATES.get(number).copied()
+    }
 }
 
 // The state after one clock.
-pub fn next_state(state: u8, tms: u8) -> u8
-    requires { state < 16 }
-    ensures { result ≡ next_number state (is_one tms) }
+pub fn next_state(state: State, tms: u8) -> State
+    ensures { state_code result ≡ next_number (state_code state) (is_one tms) }
 {
-    let row = state as usize;
-    let col = column(tms);
-    NEXT[row][col]
+    NEXT[state as usize][usize::from(tms == b'1')]
 }
 
 // The clock machine: the state after the clocks of these TMS bytes.
-pub fn run(state: u8, tms: &[u8]) -> u8
-    requires { state < 16 }
-    ensures { RunReturned state tms.now result }
+pub fn run(state: State, tms: &[u8]) -> State
+    ensures { RunReturned (state_code state) tms.now (state_code result) }
 {
-    let mut s = state;
-    let mut i: usize = 0;
-    while i < tms.len() {
-        s = next_state(s, tms[i]);
-        i += 1;
+    let mut now = state;
+    for &byte in tms {
+        now = next_state(now, byte);
     }
-    s
+    now
 }
 
 // The TMS of an operation of n bits, written from a place on; the place behind it.
@@ -108,6 +140,7 @@ fn write_lines(plan: &[u8], tms: &mut [u8], tdi: &mut [u8])
     ensures tdi_after { tdi.new ≡ written (row_of (λ c. c.tdi) (clocks_of plan.now)) tdi.old }
 {
     let mut at: usize = 0;
+    // A while, as the step varies.
     while at < plan.len() {
         let bits = plan_text::bits_at(plan, at);
         write_tms(tms, at, bits.len());
@@ -115,23 +148,15 @@ fn write_lines(plan: &[u8], tms: &mut [u8], tdi: &mut [u8])
     }
 }
 
-// The clock writer.
-pub fn write_clocks(plan: &[u8], tms: &mut [u8], tdi: &mut [u8]) -> Written
+// The clock writer: the count of clocks written.
+pub fn write_clocks(plan: &[u8], tms: &mut [u8], tdi: &mut [u8]) -> Result<usize, Refusal>
     ensures { WroteClocks plan.now tms.old tdi.old result tms.new tdi.new }
 {
-    let form = plan_text::check_form(plan);
-    match form {
-        Form::Refused(place) => Written::Refused(refusal::PLAN_FORM, place),
-        Form::Good(_) => {
-            let n = plan.len();
-            if tms.len() < n {
-                return Written::Refused(refusal::BUFFER, n);
-            }
-            if tdi.len() < n {
-                return Written::Refused(refusal::BUFFER, n);
-            }
-            write_lines(plan, tms, tdi);
-            Written::Clocks(n)
-        }
+    check_form(plan)?;
+    let n = plan.len();
+    if tms.len() < n || tdi.len() < n {
+        return Err(Kind::Buffer.at(n));
     }
+    write_lines(plan, tms, tdi);
+    Ok(n)
 }

@@ -1,15 +1,13 @@
 -- Laws of the bytes of a segment's bits, written from the highest bit down.
 -- Assumes nothing.
 use mathlib.Core.Path.{◌≡◌, refl, sym, ap, ◌∙◌}
-use mathlib.Core.Bool.{Bool, true, false, cond}
-use mathlib.Core.Option.{none, some}
+use Rattle.std.specs.Prelude.{None as none}
 use mathlib.Core.List.{List, [], ◌∷◌, ◌++◌, map, map-append, reverse, reverse-cons}
 use Prim.Native.Nat.{ℕ, zero, suc, ◌+◌, ◌-◌, ◌≤◌, ◌<◌}
 use native.Mathlib.Numerals.{add-one}
 use native.Mathlib.Omega.{arith}
 use lib.ListN.{length, set, replicate, length-map, length-replicate, length-reverse, replicate-append-replicate}
 use Rattle.model.specs.Network.{tabulate}
-use Rattle.model.specs.Path.{bit_value}
 use Rattle.model.specs.Text.{Bytes, Trit}
 use Rattle.model.proofs.Lists.{length_tabulate, tabulate_step, tabulate_none, tabulate_whole}
 use Rattle.carry_model.specs.Carry.{trit_byte}
@@ -18,25 +16,6 @@ use Rattle.network_words.proofs.WordLaws.{trits_unknown}
 use Rattle.plan_text.specs.Writing.{write_at}
 use Rattle.plan_text.proofs.Writing.{write_more}
 use Rattle.program_lines.specs.Puts.{Puts}
-
--- ---- one byte, by the known mark k and the bit x
-
-module _ (k x : Bool) (v : ℕ) (mark : v ≡ bit_value k) where
-  pub byte_unknown : v ≡ 0 → 88 ≡ trit_byte (cond k (some x) none)
-  byte_unknown e = go k mark
-    where
-      go : (b : Bool) → v ≡ bit_value b → 88 ≡ trit_byte (cond b (some x) none)
-      go true q = omega arith
-      go false q = refl
-
-  -- a known bit
-  pub byte_known_law : (w : ℕ) → (v ≡ 0 → ⊥) → w ≡ bit_value x → (w ≡ 1 → 49 ≡ trit_byte (cond k (some x) none)) × ((w ≡ 1 → ⊥) → 48 ≡ trit_byte (cond k (some x) none))
-  byte_known_law w known e = go k x mark e
-    where
-      go : (b y : Bool) → v ≡ bit_value b → w ≡ bit_value y → (w ≡ 1 → 49 ≡ trit_byte (cond b (some y) none)) × ((w ≡ 1 → ⊥) → 48 ≡ trit_byte (cond b (some y) none))
-      go false y q p = absurd (known q)
-      go true true q p = (λ z. refl, λ z. absurd (z p))
-      go true false q p = (λ z. omega arith, λ z. refl)
 
 -- ---- the bytes of bits b to len - 1, the highest first
 

@@ -8,7 +8,8 @@ use native.Mathlib.Omega.{arith}
 use native.Mathlib.Nat.{add-zero}
 use lib.Dec.{eqb, ltb}
 use lib.ListN.{length, get_or, length-append, length-map, length-reverse}
-use borrow.Author.Tests.{lt-ltb, le-ltb}
+use borrow.Author.Tests.{le-ltb}
+use Rattle.std.specs.Prelude.{Ok}
 use Rattle.model.specs.Network.{segment, multiplexer, Config, at, is_segment, len_of, tabulate}
 use Rattle.model.specs.Printed.{number, fields_of, line}
 use Rattle.model.specs.Text.{Bytes, bytes, Trit}
@@ -21,8 +22,7 @@ use Rattle.plan_text.specs.Writing.{write_at}
 use Rattle.plan_text.proofs.Writing.{over_is}
 use Rattle.program_lines.specs.Puts.{Puts}
 use Rattle.program_lines.proofs.Parts.{puts_none, puts_more}
-use Rattle.hold_lines.specs.Lines.{line_at, text_at, LineLength, TextLength, InWords, GivesText}
-use Rattle.hold_lines.specs.declared.Held.TheVariants.{Written, Refused}
+use Rattle.hold_lines.specs.Lines.{line_at, text_at, LineLength, TextLength, GivesText}
 
 -- ---- one line
 
@@ -80,13 +80,8 @@ module _ (ns : List ℕ) (s : ℕ) (bits known : List ℕ) where
 -- ---- the lines in turn
 
 module _ (ns bits known : List ℕ) where
-  -- of nodes 1 to s
-  unfoldable pub up_to : ℕ → Bytes
-  up_to zero = []
-  up_to (suc s) = up_to s ++ line_at ns bits known (suc s)
-
   -- of n nodes from number k on
-  unfoldable from : ℕ → ℕ → Bytes
+  unfoldable pub from : ℕ → ℕ → Bytes
   from k zero = []
   from k (suc n) = line_at ns bits known k ++ from (suc k) n
 
@@ -99,12 +94,15 @@ module _ (ns bits known : List ℕ) where
       ap (λ (l : Bytes). line_at ns bits known k ++ l) (f ∙ ap (λ (i : ℕ). from (suc k) n ++ line_at ns bits known i) m)
       ∙ sym (append_assoc (line_at ns bits known k) (from (suc k) n) (line_at ns bits known (k + suc n)))
 
-  from_first : (n : ℕ) → from 1 n ≡ up_to n
-  unfolding from up_to
-  from_first zero = refl
-  from_first (suc n) =
-      let m : 1 + n ≡ suc n = omega arith in
-      from_snoc 1 n ∙ ap (λ (l : Bytes). l ++ line_at ns bits known (1 + n)) (from_first n) ∙ ap (λ (i : ℕ). up_to n ++ line_at ns bits known i) m
+  -- of nodes 1 to s - 1
+  abbrev pub below : ℕ → Bytes
+  below s = from 1 (s - 1)
+
+  below_next : (s : ℕ) → 1 ≤ s → below (s + 1) ≡ below s ++ line_at ns bits known s
+  below_next s l =
+      let k : s + 1 - 1 ≡ suc (s - 1) = omega arith in
+      let m : 1 + (s - 1) ≡ s = omega arith in
+      rw k (from_snoc 1 (s - 1) ∙ ap (λ (i : ℕ). below s ++ line_at ns bits known i) m)
 
   lines_from : (c : Config) (k n : ℕ) → ((j : ℕ) → j < n → at c (k + j) [] ≡ trits_of (len_of (node_at ns (k + j))) (get_or bits (k + j) 0) (get_or known (k + j) 0))
       → hold_lines c k (tabulate (node_at ns) k n) ≡ from k n
@@ -117,81 +115,72 @@ module _ (ns bits known : List ℕ) where
       ap (λ (ts : List Trit). cond (is_segment (node_at ns k)) (hold_line k ts) [] ++ hold_lines c (suc k) (tabulate (node_at ns) (suc k) n)) here
       ∙ ap (λ (l : Bytes). line_at ns bits known k ++ l) rest
 
-  pub text_is : (count : ℕ) → text_at ns bits known count ≡ up_to count
+  -- s is behind the last node
+  text_is : (count s : ℕ) → count < s → s ≤ count + 1 → text_at ns bits known count ≡ below s
   unfolding config_of
-  text_is count = lines_from (config_of ns bits known count) 1 count (λ j h. at_tabulate _ count (1 + j) [] (omega arith) (omega arith)) ∙ from_first count
+  text_is count s l h =
+      let k : count ≡ s - 1 = omega arith in
+      lines_from (config_of ns bits known count) 1 count (λ j h. at_tabulate _ count (1 + j) [] (omega arith) (omega arith)) ∙ ap (from 1) k
 
 -- ---- their bytes, whatever the bits are
 
-abbrev pub UpToBytes : List ℕ → ℕ → ℕ → Type 0
-UpToBytes ns s sum = (bits known : List ℕ) → sum ≡ length (up_to ns bits known s)
+abbrev pub BytesBelow : List ℕ → ℕ → ℕ → Type 0
+BytesBelow ns s sum = (bits known : List ℕ) → sum ≡ length (below ns bits known s)
 
-pub bytes_none : (ns : List ℕ) → UpToBytes ns 0 0
-unfolding up_to
+pub bytes_none : (ns : List ℕ) → BytesBelow ns 1 0
+unfolding from
 bytes_none ns bits known = refl
 
-pub bytes_more : (ns : List ℕ) (s sum more : ℕ) → UpToBytes ns s sum → LineLength ns (s + 1) more → UpToBytes ns (s + 1) (sum + more)
-unfolding up_to
-bytes_more ns s sum more u l bits known =
-    let k : s + 1 ≡ suc s = omega arith in
-    let e = l bits known in
-    rw k (omega (arith, u bits known, rw k at e, length-append (up_to ns bits known s) (line_at ns bits known (suc s))))
+pub bytes_more : (ns : List ℕ) (s sum more : ℕ) → 1 ≤ s → BytesBelow ns s sum → LineLength ns s more → BytesBelow ns (s + 1) (sum + more)
+bytes_more ns s sum more h u l bits known =
+    omega (arith, u bits known, l bits known, ap length (below_next ns bits known s h), length-append (below ns bits known s) (line_at ns bits known s))
 
-pub bytes_all : (ns : List ℕ) (count s sum : ℕ) → s ≤ count → count ≤ s → UpToBytes ns s sum → TextLength ns count sum
-bytes_all ns count s sum l h u bits known =
-    let k : s ≡ count = omega arith in
-    u bits known ∙ ap length (ap (up_to ns bits known) k ∙ sym (text_is ns bits known count))
+pub bytes_all : (ns : List ℕ) (count s sum : ℕ) → count < s → s ≤ count + 1 → BytesBelow ns s sum → TextLength ns count sum
+bytes_all ns count s sum l h u bits known = u bits known ∙ ap length (sym (text_is ns bits known count s l h))
 
--- the first of the nodes
-pub words_to : (ns : List ℕ) (count s : ℕ) → InWords ns count → s ≤ count → InWords ns s
-words_to ns count s w l = record { most = omega (arith, w.most); short = λ k h m. w.short k h (omega arith) }
-
--- ---- the lines of nodes 1 to s are written, and the next place is behind them
+-- ---- the lines of nodes 1 to s - 1 are written, and the next place is behind them
 
 pub record PutLines (ns bits known out₀ : List ℕ) (s at : ℕ) (out : List ℕ) : Type 0 where
-  pub puts : Puts 0 (up_to ns bits known s) out₀ at out
+  pub puts : Puts 0 (below ns bits known s) out₀ at out
   pub kept : length out ≡ length out₀
 
 module _ (ns bits known out₀ : List ℕ) where
-  pub written_none : PutLines ns bits known out₀ 0 0 out₀
-  unfolding up_to
+  pub written_none : PutLines ns bits known out₀ 1 0 out₀
+  unfolding from
   written_none = record { puts = puts_none 0 out₀; kept = refl }
 
-  -- the lines up to s are not longer than all
-  up_longer : (s more : ℕ) → length (up_to ns bits known s) ≤ length (up_to ns bits known (s + more))
-  unfolding up_to
-  up_longer s zero = rw (add-zero s) (omega arith)
-  up_longer s (suc more) =
-      let k : s + suc more ≡ suc (s + more) = omega arith in
-      rw k (omega (arith, up_longer s more, length-append (up_to ns bits known (s + more)) (line_at ns bits known (suc (s + more)))))
+  -- the lines below s are not longer than those below a larger number
+  below_longer : (s more : ℕ) → 1 ≤ s → length (below ns bits known s) ≤ length (below ns bits known (s + more))
+  below_longer s zero h = rw (add-zero s) (omega arith)
+  below_longer s (suc more) h =
+      let k : s + suc more ≡ s + more + 1 = omega arith in
+      rw k (omega (arith, below_longer s more h, ap length (below_next ns bits known (s + more) (omega arith)), length-append (below ns bits known (s + more)) (line_at ns bits known (s + more))))
 
-  module _ (count s at : ℕ) (out : List ℕ) (w : PutLines ns bits known out₀ s at out) (more : s < count) (room : length (text_at ns bits known count) ≤ length out₀) where
+  module _ (count s at : ℕ) (out : List ℕ) (w : PutLines ns bits known out₀ s at out) (least : 1 ≤ s) (more : s ≤ count) (room : length (text_at ns bits known count) ≤ length out₀) where
     -- room for the next line
-    pub line_fits : at + length (line_at ns bits known (s + 1)) ≤ length out
-    unfolding up_to
+    pub line_fits : at + length (line_at ns bits known s) ≤ length out
     line_fits =
-        let k : s + 1 ≡ suc s = omega arith in
-        let m : suc s + (count - suc s) ≡ count = omega arith in
-        let l = up_longer (suc s) (count - suc s) in
-        rw k (omega (arith, rw m at l, w.puts.behind, w.kept, room, ap length (text_is ns bits known count), length-append (up_to ns bits known s) (line_at ns bits known (suc s))))
+        let m : s + 1 + (count - s) ≡ count + 1 = omega arith in
+        let l = below_longer (s + 1) (count - s) (omega arith) in
+        omega (
+          arith,
+          rw m at l,
+          w.puts.behind,
+          w.kept,
+          room,
+          ap length (text_is ns bits known count (count + 1) (omega arith) (omega arith)),
+          ap length (below_next ns bits known s least),
+          length-append (below ns bits known s) (line_at ns bits known s),
+        )
 
-    pub written_more : (at' : ℕ) (out' : List ℕ) → Puts at (line_at ns bits known (s + 1)) out at' out' → length out' ≡ length out → PutLines ns bits known out₀ (s + 1) at' out'
-    unfolding up_to
-    written_more at' out' p kept =
-        let k : s + 1 ≡ suc s = omega arith in
-        rw k (record { puts = puts_more w.puts (rw k at p) (omega (arith, line_fits, w.kept)); kept = kept ∙ w.kept })
+    pub written_more : (at' : ℕ) (out' : List ℕ) → Puts at (line_at ns bits known s) out at' out' → length out' ≡ length out → PutLines ns bits known out₀ (s + 1) at' out'
+    written_more at' out' p kept = record { puts = rw (below_next ns bits known s least) (puts_more w.puts p (omega (arith, line_fits, w.kept))); kept = kept ∙ w.kept }
 
-  pub written_all : (count s at : ℕ) (out : List ℕ) → s ≤ count → count ≤ s → PutLines ns bits known out₀ s at out → out ≡ write_at 0 (text_at ns bits known count) out₀
-  written_all count s at out l h w =
-      let k : s ≡ count = omega arith in
-      w.puts.holds ∙ ap (λ (t : Bytes). write_at 0 t out₀) (ap (up_to ns bits known) k ∙ sym (text_is ns bits known count))
+  pub written_all : (count s at : ℕ) (out : List ℕ) → count < s → s ≤ count + 1 → PutLines ns bits known out₀ s at out → out ≡ write_at 0 (text_at ns bits known count) out₀
+  written_all count s at out l h w = w.puts.holds ∙ ap (λ (t : Bytes). write_at 0 t out₀) (sym (text_is ns bits known count s l h))
 
 -- ---- the answer
 
-pub too_short : (text out : List ℕ) (needed : ℕ) → needed ≡ length text → length out < needed → GivesText text out (Refused 13 needed) out
-too_short text out needed e h = let b : ltb (length out) (length text) ≡ true = lt-ltb (length out) (length text) (omega (arith, h)) in
-    record { result = rw (b, e); left = rw b }
-
-pub enough : (text out out' : List ℕ) (needed : ℕ) → needed ≡ length text → needed ≤ length out → out' ≡ write_at 0 text out → GivesText text out (Written needed) out'
+pub enough : (text out out' : List ℕ) (needed : ℕ) → needed ≡ length text → needed ≤ length out → out' ≡ write_at 0 text out → GivesText text out (Ok needed) out'
 enough text out out' needed e h w = let b : ltb (length out) (length text) ≡ false = le-ltb (length out) (length text) (omega (arith, h)) in
     record { result = rw (b, e); left = rw b (w ∙ sym (over_is text out)) }

@@ -1,17 +1,16 @@
 -- The text of the configuration that the arrays hold, and what the writer of it returns and leaves.
 -- Assumes nothing.
-use Rattle.std.specs.Prelude.{◌≡◌, cond, List, [], ℕ, ◌≤◌, length, get_or}
-use Rattle.model.specs.Calls.{written, count_of, if_room}
+use Rattle.std.specs.Prelude.{◌≡◌, cond, List, [], ℕ, ◌≤◌, length, get_or, Result}
+use Rattle.model.specs.Answers.{count_of}
+use Rattle.model.specs.Calls.{written, count_of as length_of, if_room}
 use Rattle.model.specs.Limits.{max_nodes}
 use Rattle.model.specs.Network.{is_segment, len_of}
-use Rattle.model.specs.Result.{Result, ok, refused}
 use Rattle.model.specs.Text.{Bytes}
+use Rattle.model.specs.declared.refusal.Refusal.{Refusal}
 use Rattle.carry_model.specs.Carry.{hold_line, hold_lines}
 use Rattle.network_words.specs.Words.{word_width, trits_of}
 use Rattle.network_path.specs.Layout.{node_at, nodes_of, config_of}
 use Rattle.network_path.specs.Answers.{ConfigSized}
-use Rattle.hold_lines.specs.declared.Held.{Held}
-use Rattle.hold_lines.specs.declared.Held.TheVariants.{Written, Refused}
 
 -- "one `hold` line for each segment in number order": the line of node s; a multiplexer has none
 unfoldable pub line_at : List ℕ → List ℕ → List ℕ → ℕ → Bytes
@@ -41,10 +40,6 @@ pub record Configured (ns bits known : List ℕ) (count : ℕ) : Type 0 where
 
 -- ---- what it returns and leaves
 
-abbrev pub held_of : Held → Result ℕ
-held_of (Written bytes) = ok bytes
-held_of (Refused number place) = refused number place
-
-pub record GivesText (text : Bytes) (out : List ℕ) (r : Held) (out' : List ℕ) : Type 0 where
-  pub result : held_of r ≡ count_of (if_room (length out) text)
+pub record GivesText (text : Bytes) (out : List ℕ) (r : Result ℕ Refusal) (out' : List ℕ) : Type 0 where
+  pub result : count_of r ≡ length_of (if_room (length out) text)
   pub left : out' ≡ written (if_room (length out) text) out

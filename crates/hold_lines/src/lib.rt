@@ -12,18 +12,11 @@ ghost use Rattle.plan_text.specs.Writing.{write_at};
 ghost use Rattle.program_lines.specs.Puts.{Puts};
 ghost use Rattle.hold_lines.specs.Lines.{line_at, LineLength, text_at, TextLength, InWords, Configured, GivesText};
 
-use model::refusal;
+use model::refusal::{Kind, Refusal};
 use network_path::layout::{KIND, Nodes, Words, field, segment_len};
 use network_words::{Word, bit_at};
 use plan_text::{put, put_repeated};
 use program_lines::{digit_count, put_number};
-
-// The count of bytes written, or a refusal's number and place.
-#[derive(Drop)]
-pub enum Held {
-    Written(usize),
-    Refused(usize, usize),
-}
 
 // The byte of bit b of a segment, by its two words.
 fn byte_at(bits: Word, known: Word, b: usize) -> u8
@@ -46,9 +39,7 @@ fn put_bits(out: &mut [u8], at: usize, bits: Word, known: Word, len: usize) -> u
     ensures value { result ≡ at + len }
 {
     let mut next = at;
-    let mut b = len;
-    while 0 < b {
-        b -= 1;
+    for b in (0..len).rev() {
         out[next] = byte_at(bits, known, b);
         next += 1;
     }
@@ -124,9 +115,7 @@ fn text_length(nodes: &Nodes, count: usize) -> usize
     ensures { TextLength nodes.now count result }
 {
     let mut sum: usize = 0;
-    let mut s: usize = 0;
-    while s < count {
-        s += 1;
+    for s in 1..=count {
         sum += line_bytes(nodes, s);
     }
     sum
@@ -139,9 +128,7 @@ fn put_text<'a>(nodes: &'a Nodes, bits: &'a Words, known: &'a Words, count: usiz
     ensures { out.new ≡ write_at 0 (text_at nodes.now bits.now known.now count) out.old }
 {
     let mut at: usize = 0;
-    let mut s: usize = 0;
-    while s < count {
-        s += 1;
+    for s in 1..=count {
         at = put_node(nodes, bits, known, s, out, at);
     }
 }
@@ -153,14 +140,14 @@ pub fn write_holds<'a>(
     known: &'a Words,
     count: usize,
     out: &mut [u8],
-) -> Held
+) -> Result<usize, Refusal>
     requires { Configured nodes.now bits.now known.now count }
     ensures { GivesText (text_at nodes.now bits.now known.now count) out.old result out.new }
 {
     let needed = text_length(nodes, count);
     if out.len() < needed {
-        return Held::Refused(refusal::BUFFER, needed);
+        return Err(Kind::Buffer.at(needed));
     }
     put_text(nodes, bits, known, count, out);
-    Held::Written(needed)
+    Ok(needed)
 }

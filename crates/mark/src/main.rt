@@ -4,38 +4,25 @@
 
 use mark_answer::{ROOM, print_mark};
 use model::limits::{MAX_NETWORK_BYTES, MAX_PLAN_BYTES};
-use program_io::finish::answer;
-use program_io::input::read_text;
 use program_io::start::begin;
 
+const USAGE: &str = "usage: mark NETWORK PLAN\n\
+    NETWORK is the file of a network text, PLAN that of a plan text; - for one of them is standard input.\n\
+    Prints pass with the counts of operations and clocks, then got for each read target, or fail, number, place.\n";
+
 fn main(rt: HostRuntime) {
-    let name = b"mark";
-    let call = begin(
-        &rt,
-        name,
-        b"usage: mark NETWORK PLAN\n\
-          NETWORK is the file of a network text, PLAN that of a plan text; - for one of them is standard input.\n\
-          Prints pass with the counts of operations and clocks, then got for each read target, or fail, number, place.\n",
-        2,
-        2,
-    );
-    let mut network = [0u8; MAX_NETWORK_BYTES + 1];
-    let first = read_text(&rt, name, call.runs, call.reports, call.first, &mut network);
-    let mut plan = [0u8; MAX_PLAN_BYTES + 1];
-    let second = read_text(
-        &rt,
-        name,
-        first.is_read,
-        call.reports,
-        call.second,
-        &mut plan,
-    );
-    if !second.is_read {
+    let Some(call) = begin(&rt, "mark", USAGE, 2, 2) else {
         return;
-    }
-    let n = first.count;
-    let p = second.count;
+    };
+    let mut network = [0u8; MAX_NETWORK_BYTES + 1];
+    let Some(n) = call.read_text(call.first, &mut network) else {
+        return;
+    };
+    let mut plan = [0u8; MAX_PLAN_BYTES + 1];
+    let Some(p) = call.read_text(call.second, &mut plan) else {
+        return;
+    };
     let mut out = [0u8; ROOM];
     let end = print_mark(&network[..n], &plan[..p], &mut out);
-    answer(&rt, name, call.reports, &out[..end]);
+    call.answer(&out[..end]);
 }

@@ -6,12 +6,15 @@ use Prim.Native.Nat.{ℕ, ◌≤◌}
 use native.Mathlib.Omega.{arith}
 use lib.ListN.{length, take, length-map}
 use borrow.Author.Tests.{le-ltb}
+use Rattle.std.specs.Prelude.{Result as Answer, Ok, Err}
+use Rattle.model.specs.Answers.{count_of}
+use Rattle.model.specs.declared.refusal.Refusal.{Refusal}
 use Rattle.model.specs.Result.{ok}
 use Rattle.model.specs.Text.{Bytes}
 use Rattle.model.specs.Plan.{Plan}
 use Rattle.model.specs.PlanText.{read_plan}
 use Rattle.model.specs.Tap.{Clock, plan_clocks, bit_byte}
-use Rattle.model.specs.Mark.{Got, Pass, mark}
+use Rattle.model.specs.Mark.{Pass as ModelPass, mark}
 use Rattle.model.specs.Calls.{clocks_of, clocks_written, write_clocks}
 use Rattle.model.specs.Demands.{AcceptedAndValid, AsWritten}
 use Rattle.model.specs.Places.{◌or◌, Listed, NetworkRefusal, PlanTextRefusal, MarkerRefusal}
@@ -19,36 +22,31 @@ use Rattle.model.proofs.Lists.{not_ok, ok_is}
 use Rattle.model.proofs.Marking.{passed_run}
 use Rattle.model.proofs.MarkerDemand.{marked_texts}
 use Rattle.model.proofs.Demands.{refusals, marker, clocks as written, played}
-use Rattle.clock_writer.specs.declared.Written.{Written}
-use Rattle.clock_writer.specs.declared.Written.TheVariants.{Clocks, Refused as NotWritten}
-use Rattle.clock_writer.specs.Clocks.{written_answer}
-use Rattle.marker_targets.specs.declared.Verdict.{Verdict}
-use Rattle.marker_targets.specs.declared.Verdict.TheVariants.{Pass as Passed, Refused}
-use Rattle.marker_targets.specs.Answers.{gots_of, verdict_of}
+use Rattle.marker_targets.specs.declared.Pass.{Pass}
+use Rattle.marker_targets.specs.Answers.{pass_of, mark_of}
 use Rattle.marker.specs.Demand.{EndsListed, PassesExactly, PassBorneOut}
 
 pub ends_listed : EndsListed
-ends_listed n p m e number place q =
-    subst (Listed (NetworkRefusal n or PlanTextRefusal p or MarkerRefusal n p)) (sym e.result ∙ ap (λ (v : Verdict). verdict_of v (gots_of m.gots)) q) (refusals.marker n p)
+ends_listed n p m e r q = subst (Listed (NetworkRefusal n or PlanTextRefusal p or MarkerRefusal n p)) (sym e.result ∙ ap mark_of q) (refusals.marker n p)
 
--- the pass of a verdict
-pub verdict_pass : (v : Verdict) (gs : List Got) (pass : Pass) → verdict_of v gs ≡ ok pass → (lines clocks : ℕ) × (v ≡ Passed lines clocks)
-verdict_pass (Passed lines clocks) gs pass e = (lines, clocks, refl)
-verdict_pass (Refused number place) gs pass e = absurd (not_ok e)
+-- a call's answer that is a pass in the model
+pub mark_passes : (m : Answer Pass Refusal) (pass : ModelPass) → mark_of m ≡ ok pass → (q : Pass) × (m ≡ Ok q)
+mark_passes (Ok q) pass e = (q, refl)
+mark_passes (Err r) pass e = absurd (not_ok e)
 
 pub passes_exactly : PassesExactly
 passes_exactly n p m e = (there, back)
   where
-    there : (lines clocks : ℕ) × (m.verdict ≡ Passed lines clocks) → AcceptedAndValid n p
-    there (lines, clocks, q) = (marker n p).0 (_, sym e.result ∙ ap (λ (v : Verdict). verdict_of v (gots_of m.gots)) q)
+    there : (pass : Pass) × (m ≡ Ok pass) → AcceptedAndValid n p
+    there (pass, q) = (marker n p).0 (pass_of pass, sym e.result ∙ ap mark_of q)
 
-    back : AcceptedAndValid n p → (lines clocks : ℕ) × (m.verdict ≡ Passed lines clocks)
-    back a = let b = (marker n p).1 a in verdict_pass m.verdict (gots_of m.gots) b.0 (e.result ∙ b.1)
+    back : AcceptedAndValid n p → (pass : Pass) × (m ≡ Ok pass)
+    back a = let b = (marker n p).1 a in mark_passes m b.0 (e.result ∙ b.1)
 
 -- the answer of a call that writes
-answer_clocks : (w : Written) (count : ℕ) → written_answer w ≡ ok count → w ≡ Clocks count
-answer_clocks (Clocks k) count e = ap Clocks (ok_is e)
-answer_clocks (NotWritten number place) count e = absurd (not_ok e)
+answer_clocks : (w : Answer ℕ Refusal) (count : ℕ) → count_of w ≡ ok count → w ≡ Ok count
+answer_clocks (Ok k) count e = ap Ok (ok_is e)
+answer_clocks (Err r) count e = absurd (not_ok e)
 
 -- with room, all clocks are written
 with_room : (p : Bytes) (cs : List Clock) (tms tdi : List ℕ) → clocks_of p ≡ ok cs → length cs ≤ length tms → length cs ≤ length tdi → (write_clocks p tms tdi).result ≡ ok (length cs)
@@ -60,7 +58,7 @@ unfolding clocks_of
 clocks_of_law p plan e = rw e
 
 pub pass_borne_out : PassBorneOut
-pass_borne_out n p m lines count e q tms tdi w tms' tdi' wrote a b = (
+pass_borne_out n p m pass e q tms tdi w tms' tdi' wrote a b = (
   answer_clocks w count (wrote.result ∙ result),
   record {
     net = v.net;
@@ -71,24 +69,24 @@ pass_borne_out n p m lines count e q tms tdi w tms' tdi' wrote a b = (
     as_many = many;
     tms_row_law = ap (take count) wrote.tms_left ∙ ap (λ (k : ℕ). take k (write_clocks p tms tdi).tms) (sym many) ∙ row.tms_row_law;
     tdi_row_law = ap (take count) wrote.tdi_left ∙ ap (λ (k : ℕ). take k (write_clocks p tms tdi).tdi) (sym many) ∙ row.tdi_row_law;
-    upheld = λ first holds fed. played n p v.net v.plan (plan_clocks v.plan) pass v.accepted v.reads list_is is first holds fed;
+    upheld = λ first holds fed. played n p v.net v.plan (plan_clocks v.plan) (pass_of pass) v.accepted v.reads list_is is first holds fed;
   },
 )
   where
-    pass : Pass
-    pass = record { operations = lines; clocks = count; gots = gots_of m.gots }
+    count : ℕ
+    count = pass.clocks
 
-    is : mark n p ≡ ok pass
-    is = sym e.result ∙ ap (λ (x : Verdict). verdict_of x (gots_of m.gots)) q
+    is : mark n p ≡ ok (pass_of pass)
+    is = sym e.result ∙ ap mark_of q
 
     v : AcceptedAndValid n p
-    v = (marker n p).0 (pass, is)
+    v = (marker n p).0 (pass_of pass, is)
 
     list_is : clocks_of p ≡ ok (plan_clocks v.plan)
     list_is = clocks_of_law p v.plan v.reads
 
     many : length (plan_clocks v.plan) ≡ count
-    many = (passed_run v.net v.plan pass (marked_texts n p v.net v.plan pass v.accepted v.reads is)).as_many
+    many = (passed_run v.net v.plan (pass_of pass) (marked_texts n p v.net v.plan (pass_of pass) v.accepted v.reads is)).as_many
 
     result : (write_clocks p tms tdi).result ≡ ok count
     result = with_room p (plan_clocks v.plan) tms tdi list_is (omega (arith, many)) (omega (arith, many)) ∙ ap ok many

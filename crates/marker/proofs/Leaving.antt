@@ -2,7 +2,9 @@
 -- Assumes nothing.
 use mathlib.Core.Path.{◌≡◌, refl, sym, ap, ◌∙◌, subst}
 use Prim.Native.Nat.{ℕ}
-use Rattle.model.specs.Result.{Result, ok, and_then}
+use Rattle.std.specs.Prelude.{Result as Answer, Ok, Err, IfOk}
+use Rattle.model.specs.declared.refusal.Refusal.{Refusal}
+use Rattle.model.specs.Result.{ok}
 use Rattle.model.specs.Text.{Bytes}
 use Rattle.model.specs.Network.{Network as ModelNetwork}
 use Rattle.model.specs.Path.{Walk, path, stop, walk}
@@ -12,24 +14,13 @@ use Rattle.model.proofs.Lists.{not_ok, ok_is}
 use Rattle.carry_model.specs.Carry.{left_by}
 use Rattle.carry_model.proofs.LeftConfig.{left_last}
 use Rattle.network_reader.specs.declared.reader.Network.{Network}
-use Rattle.network_reader.specs.declared.reader.Reading.{Reading}
-use Rattle.network_reader.specs.declared.reader.Acceptance.TheVariants.{Accepted, Refused as Rejected}
 use Rattle.network_reader.specs.Reads.{recorded_network, IsReading}
-use Rattle.network_reader.proofs.Records.{reading_rejected, reading_recorded}
-use Rattle.plan_text.specs.Form.{form_of, plan_form}
-use Rattle.plan_text.specs.declared.Form.{Form}
-use Rattle.plan_text.specs.declared.Form.TheVariants.{Refused as Bad}
-use Rattle.plan_text.proofs.Forms.{form_refused}
-use Rattle.marker_operations.specs.declared.Ran.{Ran}
-use Rattle.marker_operations.specs.declared.Ran.TheVariants.{Done, Refused}
 use Rattle.marker_operations.specs.Operations.{Marking, from_start, Runs}
-use Rattle.marker_targets.specs.declared.Mark.{Mark}
+use Rattle.marker_targets.specs.declared.Pass.{Pass}
 use Rattle.marker.specs.declared.Marked.{Marked}
 use Rattle.marker.specs.Left.{Stands, Leaves, LeftAfter}
 use Rattle.marker.specs.Marks.{Markable}
-use Rattle.marker.proofs.Verdicts.{recorded, good, before, run_refused, finished}
-
--- ---- the operations
+use Rattle.marker.proofs.Verdicts.{recorded, good, before, ran_as}
 
 last_left : (net : ModelNetwork) (plan : Plan) (run : Run) → from_start net plan (walk net net.start) ≡ ok run → run.last ≡ left_by net plan
 last_left net plan run e = go (walk net net.start) refl e
@@ -38,31 +29,24 @@ last_left net plan run e = go (walk net net.start) refl e
     go (path p) q f = left_last net plan p run q f
     go (stop m) q f = absurd (not_ok f)
 
-module _ (r : Network) (p : Bytes) (lines : ℕ) (m : Markable r p lines) (ran : Ran) (after : Marking) (runs : Runs r.nodes r.summary p (before r p lines m) ran after) where
-  pub leaves_refused : (number place : ℕ) → ran ≡ Refused number place → (x : Marked) → Leaves r p x
-  leaves_refused number place e x plan pass reads passes =
-      absurd (not_ok (run_refused r p lines m ran after runs number place e ∙ ap (λ (a : Result Plan). and_then a (mark_plan (recorded_network r))) reads ∙ passes))
-
-  pub leaves_done : ran ≡ Done → (a : Mark) → Leaves r p record { mark = a; nodes = r.nodes; count = r.summary.count; bits = after.bits; known = after.known }
-  leaves_done e a plan pass reads passes =
-      let f = finished r p lines m ran after runs e in
-      let g = good r p lines m in
+-- on a record's network
+module _ (w : Network) (p : Bytes) (lines : ℕ) (m : Markable w p lines) (after : Marking) (runs : Runs w.nodes w.summary p (before w p lines m) (Ok tt) after) where
+  pub leaves_done : (a : Pass) → Leaves w p record { pass = a; nodes = w.nodes; count = w.summary.count; bits = after.bits; known = after.known }
+  leaves_done a plan pass reads passes =
+      let f = ran_as w p lines m (Ok tt) after runs in
+      let g = good w p lines m in
       record {
-        stored = (recorded r p lines m).stored;
-        config = f.last ∙ last_left (recorded_network r) g.plan f.run f.is ∙ ap (left_by (recorded_network r)) (ok_is (sym g.reads ∙ reads));
-        sized = f.sized;
+        stored = (recorded w p lines m).stored;
+        config = f.2 ∙ last_left (recorded_network w) g.plan f.0 f.1 ∙ ap (left_by (recorded_network w)) (ok_is (sym g.reads ∙ reads));
+        sized = f.4;
       }
 
--- ---- the texts
+-- on two texts
+left_after : (n p : Bytes) (w : Network) → IsReading n (Ok w) → (x : Marked) → Leaves w p x → LeftAfter n p x
+left_after n p w is x leaves net plan pass reads also passes =
+    let same : recorded_network w ≡ net = ok_is (is.reads ∙ reads) in
+    subst (λ (z : ModelNetwork). mark_plan z plan ≡ ok pass → Stands z (left_by z plan) x) same (leaves plan pass also) passes
 
-module _ (n p : Bytes) (r : Reading) (is : IsReading n r) (x : Marked) where
-  pub left_rejected : (number place : ℕ) → r.verdict ≡ Rejected number place → LeftAfter n p x
-  left_rejected number place e net plan pass reads q passes = absurd (not_ok (sym (reading_rejected n r is number place e) ∙ reads))
-
-  pub left_bad : (f : Form) (place : ℕ) → form_of f ≡ plan_form p → f ≡ Bad place → LeftAfter n p x
-  left_bad f place e q net plan pass reads also passes = absurd (not_ok (sym (form_refused p f place e q) ∙ also))
-
-  pub left_accepted : r.verdict ≡ Accepted → Leaves r.network p x → LeftAfter n p x
-  left_accepted e leaves net plan pass reads also passes =
-      let same : recorded_network r.network ≡ net = ok_is (sym (reading_recorded n r is e).reads ∙ reads) in
-      subst (λ (w : ModelNetwork). mark_plan w plan ≡ ok pass → Stands w (left_by w plan) x) same (leaves plan pass also) passes
+pub leaves_after : (n p : Bytes) (w : Network) → IsReading n (Ok w) → (r : Answer Marked Refusal) → IfOk r (λ x. Leaves w p x) → IfOk r (λ x. LeftAfter n p x)
+leaves_after n p w is (Ok x) leaves = left_after n p w is x leaves
+leaves_after n p w is (Err e) leaves = tt

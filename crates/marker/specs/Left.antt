@@ -14,11 +14,7 @@ use Rattle.network_path.specs.Answers.{ConfigSized}
 use Rattle.network_path.specs.Stored.{Stored}
 use Rattle.network_reader.specs.declared.reader.Network.{Network}
 use Rattle.network_reader.specs.Reads.{recorded_network}
-use Rattle.marker_targets.specs.declared.Mark.{Mark}
 use Rattle.marker.specs.declared.Marked.{Marked}
-
-abbrev pub as_read : Mark → Network → Marked
-as_read m r = record { mark = m; nodes = r.nodes; count = r.summary.count; bits = r.bits; known = r.known }
 
 -- the arrays hold the network's nodes and this configuration
 pub record Stands (net : ModelNetwork) (c : Config) (r : Marked) : Type 0 where

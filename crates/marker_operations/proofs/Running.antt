@@ -1,13 +1,18 @@
 -- Laws of the operations in turn: one operation, the loop over the lines of a plan text, and the run from the start.
 -- Assumes nothing.
-use mathlib.Core.Path.{◌≡◌, refl, sym, ap, ◌∙◌, subst}
-use mathlib.Core.Bool.{Bool, true, false}
+use mathlib.Core.Path.{◌≡◌, refl, sym, ap, ◌∙◌}
+use mathlib.Core.Bool.{Bool, true, false, cond}
 use mathlib.Core.List.{List, [], ◌∷◌, ◌++◌, map, append-nil, append_assoc}
 use Prim.Native.Nat.{ℕ, suc, ◌+◌, ◌≤◌, ◌<◌}
 use native.Mathlib.Omega.{arith}
-use lib.ListN.{length, drop, length-append, length-map}
-use borrow.Author.Tests.{eq-eqb, ne_eqb}
+use lib.Dec.{eqb}
+use lib.ListN.{length, take, drop, length-append, length-map}
+use borrow.Author.Tests.{eq-eqb}
+use Rattle.std.specs.Prelude.{Result as Answer, Ok, Err}
 use Rattle.model.specs.Result.{Result, ok, refused, and_then}
+use Rattle.model.specs.Answers.{number_of}
+use Rattle.model.specs.declared.refusal.Refusal.{Refusal}
+use Rattle.model.specs.declared.refusal.Kind.TheVariants.{Start, Configuration}
 use Rattle.model.specs.Text.{Bytes}
 use Rattle.model.specs.Network.{Config, Network}
 use Rattle.model.specs.Path.{ScanPath, Walk, path, stop, walk, path_length, csu}
@@ -17,46 +22,55 @@ use Rattle.model.specs.Tap.{bit_byte}
 use Rattle.model.specs.Mark.{Run, along, settled, run_from}
 use Rattle.model.proofs.PlanTexts.{text_of}
 use Rattle.network_words.specs.Words.{byte_bit}
+use Rattle.network_path.specs.declared.walk.PathSize.{PathSize}
 use Rattle.network_path.specs.Answers.{FindsPath, Loads}
-use Rattle.network_path.specs.declared.walk.Walked.{Walked}
-use Rattle.network_path.specs.declared.walk.Walked.TheVariants.{Path, Stop as Stopped}
 use Rattle.network_path.proofs.StoredLaws.{found_path, found_stop}
 use Rattle.plan_text.specs.Lines.{bit_run}
 use Rattle.plan_text.proofs.Lines.{line_room, line_bits, line_next, line_more, line_none}
 use Rattle.network_draft.specs.declared.store.Summary.{Summary}
-use Rattle.marker_operations.specs.declared.Operated.{Operated}
-use Rattle.marker_operations.specs.declared.Operated.TheVariants.{Next, WrongLength, NotValid}
-use Rattle.marker_operations.specs.declared.Ran.TheVariants.{Done, Refused}
-use Rattle.marker_operations.specs.Operations.{Reached, Noted, config_at, State, path_at, OnPath, Loaded, OperatedAs, Operates, RanAs, HoldsStart, from_start}
+use Rattle.marker_operations.specs.Operations.{Reached, Noted, config_at, State, path_at, OnPath, path_after, operated, OperatedAs, Operates, RanAs, HoldsStart, from_start}
 use Rattle.marker_operations.proofs.Noting.{reached_more}
+
+-- a walk's answer, with a refusal where a multiplexer stops it
+abbrev pub told_as : (ℕ → Refusal) → Answer PathSize ℕ → Answer PathSize Refusal
+told_as f (Ok size) = Ok size
+told_as f (Err m) = Err (f m)
 
 -- ---- one operation
 
-module _ (ns : List ℕ) (t : Summary) (scan : Bytes) (k n len : ℕ) (old : State) where
+module _ (ns : List ℕ) (t : Summary) (scan : Bytes) (k : ℕ) (size : PathSize) (old : State) where
   abbrev p : ScanPath
-  p = path_at ns n old
+  p = path_at ns size.segments old
 
-  module _ (new : State) (r : Walked) (l : length scan ≡ len)
-      (noted : Noted p t.target_segment t.target_count k old.marking.firsts new.marking.firsts)
-      (loads : Loads ns old.way n scan old.marking.bits old.marking.known new.marking.bits new.marking.known)
+  abbrev bits : List Bool
+  bits = map byte_bit scan
+
+  module _ (new : State) (r : Answer PathSize ℕ) (long : length scan ≡ size.bits)
+      (noted : Noted p (take t.target_count t.targets) k old.marking.met new.marking.met)
+      (loads : Loads ns old.way size.segments scan old.marking.bits old.marking.known new.marking.bits new.marking.known)
       (found : FindsPath ns new.marking.bits new.marking.known t.out r new.way) where
-    op_loaded : (net : Network) → OnPath net ns t n len old → Loaded ns t p scan k old.marking new.marking
-    op_loaded net o = record { as_long = l ∙ o.found.long; after = loads.loads t.count; noted = noted }
+    op_walk : (net : Network) (w : Walk) → OnPath net ns t size old → walk net (config_at ns t new.marking) ≡ w
+        → operated net p (config_at ns t old.marking) bits k ≡ path_after k w
+    op_walk net w o e =
+        rw (eq-eqb (length bits) (path_length p) (length-map scan byte_bit ∙ long ∙ o.found.long), ← loads.loads t.count, e)
 
-    pub op_next : (m long : ℕ) → r ≡ Path m long → Operates ns t scan k n len old (Next m long) new
-    op_next m long q net o = (
-      op_loaded net o,
-      record {
-        stored = o.stored;
-        found = found_path net ns t.count t.out o.stored new.marking.bits new.marking.known r new.way found m long q;
-        in_limits = o.in_limits;
-        sized = loads.sized;
-        slots = noted.slots;
-      },
-    )
-
-    pub op_stop : (m : ℕ) → r ≡ Stopped m → Operates ns t scan k n len old NotValid new
-    op_stop m q net o = (op_loaded net o, (m, found_stop net ns t.count t.out o.stored new.marking.bits new.marking.known r new.way found m q))
+    pub op_told : Operates ns t scan k size old (told_as (λ m. record { kind = Configuration; place = k }) r) new
+    op_told net o = go r refl
+      where
+        go : (x : Answer PathSize ℕ) → r ≡ x → OperatedAs net ns t p scan k old.marking (told_as (λ m. record { kind = Configuration; place = k }) x) new
+        go (Ok next) q =
+            let f = found_path net ns t.count t.out o.stored new.marking.bits new.marking.known r new.way found next q in
+            record {
+              tells = sym (op_walk net _ o f.walks);
+              leaves = (
+                record { after = loads.loads t.count; noted = noted },
+                record { stored = o.stored; found = f; in_limits = o.in_limits; sized = loads.sized; slots_law = noted.size },
+              );
+            }
+        go (Err m) q = record {
+          tells = sym (op_walk net _ o (found_stop net ns t.count t.out o.stored new.marking.bits new.marking.known r new.way found m q));
+          leaves = tt;
+        }
 
 -- ---- the model's run, one operation on
 
@@ -72,32 +86,34 @@ behind_none : (a : Result Run) → a ≡ and_then a (behind [])
 behind_none (ok r) = refl
 behind_none (refused number place) = refl
 
-module _ (net : Network) (k : ℕ) (p : ScanPath) (c : Config) (bs : List Bool) (plan : Plan) where
-  run_wrong_length : (length bs ≡ path_length p → ⊥) → run_from net k p c (bs ∷ plan) ≡ refused 15 k
-  unfolding run_from
-  run_wrong_length h = rw (ne_eqb _ _ h)
-
-  run_on : (w : Walk) → length bs ≡ path_length p → walk net (csu p bs c) ≡ w
-      → run_from net k p c (bs ∷ plan) ≡ and_then (settled k w (λ p'. run_from net (suc k) p' (csu p bs c) plan)) (along p)
-  unfolding run_from
-  run_on w l e = rw (eq-eqb _ _ l, e)
+run_step : (net : Network) (k : ℕ) (p : ScanPath) (c : Config) (bs : List Bool) (plan : Plan)
+    → run_from net k p c (bs ∷ plan) ≡ and_then (operated net p c bs k) (λ q. and_then (run_from net (suc k) q (csu p bs c) plan) (along p))
+unfolding run_from
+run_step net k p c bs plan = go (eqb (length bs) (path_length p)) (walk net (csu p bs c))
+  where
+    go : (b : Bool) (w : Walk)
+        → cond b (and_then (settled k w (λ q. run_from net (suc k) q (csu p bs c) plan)) (along p)) (refused 15 k)
+        ≡ and_then (cond b (path_after k w) (refused 15 k)) (λ q. and_then (run_from net (suc k) q (csu p bs c) plan) (along p))
+    go true (path q) = refl
+    go true (stop m) = refl
+    go false w = refl
 
 -- ---- the loop: the run so far, and what is left of the text
 
-pub record Going (net : Network) (plan : Plan) (ns : List ℕ) (t : Summary) (text : Bytes) (whole : Result Run) (at k n len : ℕ) (s : State) : Type 0 where
+pub record Going (net : Network) (plan : Plan) (ns : List ℕ) (t : Summary) (text : Bytes) (whole : Result Run) (at k : ℕ) (size : PathSize) (s : State) : Type 0 where
   pub ps : List ScanPath
   pub rest : Plan
   pub left : drop at text ≡ write_plan rest
   pub number : k ≡ suc (length ps)
   pub few : k ≤ suc at
-  pub on : OnPath net ns t n len s
-  pub runs : whole ≡ and_then (run_from net k (path_at ns n s) (config_at ns t s.marking) rest) (behind ps)
-  pub reached : Reached t s.marking.firsts ps
+  pub on : OnPath net ns t size s
+  pub runs : whole ≡ and_then (run_from net k (path_at ns size.segments s) (config_at ns t s.marking) rest) (behind ps)
+  pub reached : Reached t s.marking.met ps
 
 module _ (net : Network) (plan : Plan) (ns : List ℕ) (t : Summary) (text : Bytes) where
-  pub going_start : (n len : ℕ) (s : State) → read_plan text ≡ ok plan → OnPath net ns t n len s → Reached t s.marking.firsts []
-      → Going net plan ns t text (run_from net 1 (path_at ns n s) (config_at ns t s.marking) plan) 0 1 n len s
-  going_start n len s e o r = record {
+  pub going_start : (size : PathSize) (s : State) → read_plan text ≡ ok plan → OnPath net ns t size s → Reached t s.marking.met []
+      → Going net plan ns t text (run_from net 1 (path_at ns size.segments s) (config_at ns t s.marking) plan) 0 1 size s
+  going_start size s e o r = record {
     ps = [];
     rest = plan;
     left = (text_of text plan e).text;
@@ -108,19 +124,19 @@ module _ (net : Network) (plan : Plan) (ns : List ℕ) (t : Summary) (text : Byt
     reached = r;
   }
 
-  module _ (whole : Result Run) (at k n len : ℕ) (s : State) (g : Going net plan ns t text whole at k n len s) where
+  module _ (whole : Result Run) (at k : ℕ) (size : PathSize) (s : State) (g : Going net plan ns t text whole at k size s) where
     abbrev c : Config
     c = config_at ns t s.marking
 
     abbrev route : ScanPath
-    route = path_at ns n s
+    route = path_at ns size.segments s
 
-    pub going_end : length text ≤ at → RanAs ns t Done s.marking whole
+    pub going_end : length text ≤ at → RanAs ns t (Ok tt) s.marking whole
     unfolding run_from
     going_end h =
         let z = line_none text at g.rest g.left h in
         let w : whole ≡ ok record { paths = g.ps; last = c } = g.runs ∙ rw z (ap (λ (l : List ScanPath). ok record { paths = l; last = c }) (append-nil g.ps)) in
-        subst (RanAs ns t Done s.marking) (sym w) (refl, refl, g.reached, g.on.sized)
+        (record { paths = g.ps; last = c }, w, refl, g.reached, g.on.sized)
 
     -- a line more
     module _ (more : at < length text) where
@@ -131,11 +147,8 @@ module _ (net : Network) (plan : Plan) (ns : List ℕ) (t : Summary) (text : Byt
 
       module _ (scan : Bytes) (is : scan ≡ map bit_byte (bit_run (drop (at + 4) text))) where
         record Line : Type 0 where
-          bs : List Bool
           others : Plan
-          whole_is : whole ≡ and_then (run_from net k route c (bs ∷ others)) (behind g.ps)
-          bits_are : map byte_bit scan ≡ bs
-          long : length scan ≡ length bs
+          whole_is : whole ≡ and_then (run_from net k route c (map byte_bit scan ∷ others)) (behind g.ps)
           room : at + (5 + length scan) ≤ length text
           next : drop (at + (5 + length scan)) text ≡ write_plan others
 
@@ -150,12 +163,10 @@ module _ (net : Network) (plan : Plan) (ns : List ℕ) (t : Summary) (text : Byt
             let here : drop at text ≡ write_plan (m.0 ∷ m.1) = g.left ∙ ap write_plan m.2 in
             let e : scan ≡ map bit_byte m.0 = is ∙ ap (map bit_byte) (line_bits text at m.0 m.1 here) in
             let l : length scan ≡ length m.0 = ap length e ∙ length-map m.0 bit_byte in
+            let f : m.0 ≡ map byte_bit scan = sym (ap (map byte_bit) e ∙ back m.0) in
             record {
-              bs = m.0;
               others = m.1;
-              whole_is = g.runs ∙ ap (λ (q : Plan). and_then (run_from net k route c q) (behind g.ps)) m.2;
-              bits_are = ap (map byte_bit) e ∙ back m.0;
-              long = l;
+              whole_is = g.runs ∙ ap (λ (q : Plan). and_then (run_from net k route c q) (behind g.ps)) (m.2 ∙ ap (λ (b : List Bool). b ∷ m.1) f);
               room = omega (arith, line_room text at m.0 m.1 here);
               next = ap (λ (i : ℕ). drop (at + (5 + i)) text) l ∙ line_next text at m.0 m.1 here;
             }
@@ -163,60 +174,55 @@ module _ (net : Network) (plan : Plan) (ns : List ℕ) (t : Summary) (text : Byt
         pub going_further : at + (5 + length scan) ≤ length text
         going_further = line.room
 
-        on_by : (w : Walk) → length scan ≡ path_length route → walk net (csu route (map byte_bit scan) c) ≡ w
-            → whole ≡ and_then (and_then (settled k w (λ p'. run_from net (suc k) p' (csu route (map byte_bit scan) c) line.others)) (along route)) (behind g.ps)
-        on_by w l e =
-            rw line.bits_are (line.whole_is ∙ ap (λ (a : Result Run). and_then a (behind g.ps))
-            (run_on net k route c line.bs line.others w (sym line.long ∙ l) (ap (λ (b : List Bool). walk net (csu route b c)) (sym line.bits_are) ∙ e)))
+        -- the rest after the operation
+        abbrev after : ScanPath → Result Run
+        after q = and_then (run_from net (suc k) q (csu route (map byte_bit scan) c) line.others) (along route)
 
-        -- what the operation answers
-        module _ (r : Operated) (new : State) (o : Operates ns t scan k n len s r new) where
-          told : (x : Operated) → r ≡ x → OperatedAs net ns t route scan k s.marking x new
-          told x e = subst (λ (y : Operated). OperatedAs net ns t route scan k s.marking y new) e (o net g.on)
+        by_operation : (a : Result ScanPath) → a ≡ operated net route c (map byte_bit scan) k → whole ≡ and_then (and_then a after) (behind g.ps)
+        by_operation a e =
+            line.whole_is ∙ ap (λ (r : Result Run). and_then r (behind g.ps)) (run_step net k route c (map byte_bit scan) line.others ∙ ap (λ (r : Result ScanPath). and_then r after) (sym e))
 
-          pub going_wrong_length : r ≡ WrongLength → RanAs ns t (Refused 15 k) new.marking whole
-          going_wrong_length e =
-              let w : whole ≡ refused 15 k = line.whole_is ∙ rw (run_wrong_length net k route c line.bs line.others (λ l. told WrongLength e (line.long ∙ l))) in
-              subst (RanAs ns t (Refused 15 k) new.marking) (sym w) refl
+        pub going_refused : (r : Refusal) (new : State) → Operates ns t scan k size s (Err r) new → whole ≡ refused (number_of r.kind) r.place
+        going_refused r new o = by_operation _ (o net g.on).tells
 
-          pub going_stop : r ≡ NotValid → RanAs ns t (Refused 16 k) new.marking whole
-          going_stop e =
-              let a = told NotValid e in
-              let w : whole ≡ refused 16 k = on_by (stop a.1.0) a.0.as_long (ap (walk net) (sym a.0.after) ∙ a.1.1) in
-              subst (RanAs ns t (Refused 16 k) new.marking) (sym w) refl
-
-          pub going_next : (m long : ℕ) → r ≡ Next m long → Going net plan ns t text whole (at + (5 + length scan)) (k + 1) m long new
-          going_next m long e =
-              let a = told (Next m long) e in
-              let z : k + 1 ≡ suc k = omega arith in
-              record {
-                ps = g.ps ++ route ∷ [];
-                rest = line.others;
-                left = line.next;
-                number = omega (arith, g.number, length-append g.ps (route ∷ []));
-                few = omega (arith, g.few);
-                on = a.1;
-                runs =
-                    on_by (path (path_at ns m new)) a.0.as_long (ap (walk net) (sym a.0.after) ∙ a.1.found.walks)
-                    ∙ behind_along g.ps route (run_from net (suc k) (path_at ns m new) (csu route (map byte_bit scan) c) line.others) ∙ rw (z, a.0.after) refl;
-                reached = reached_more t g.ps route k s.marking.firsts new.marking.firsts g.number g.reached a.0.noted;
-              }
+        pub going_next : (next : PathSize) (new : State) → Operates ns t scan k size s (Ok next) new → Going net plan ns t text whole (at + (5 + length scan)) (k + 1) next new
+        going_next next new o =
+            let a = o net g.on in
+            let z : k + 1 ≡ suc k = omega arith in
+            record {
+              ps = g.ps ++ route ∷ [];
+              rest = line.others;
+              left = line.next;
+              number = omega (arith, g.number, length-append g.ps (route ∷ []));
+              few = omega (arith, g.few);
+              on = a.leaves.1;
+              runs =
+                  by_operation _ a.tells
+                  ∙ behind_along g.ps route (run_from net (suc k) (path_at ns next.segments new) (csu route (map byte_bit scan) c) line.others) ∙ rw (z, a.leaves.0.after) refl;
+              reached = reached_more t g.ps route k s.marking.met new.marking.met g.on.in_limits g.number g.reached a.leaves.0.noted;
+            }
 
 -- ---- from the start
 
-module _ (net : Network) (plan : Plan) (ns : List ℕ) (t : Summary) (s : State) (r : Walked) (h : HoldsStart net ns t s.marking)
+module _ (net : Network) (plan : Plan) (ns : List ℕ) (t : Summary) (s : State) (r : Answer PathSize ℕ) (h : HoldsStart net ns t s.marking)
     (found : FindsPath ns s.marking.bits s.marking.known t.out r s.way) where
-  pub start_stops : (m : ℕ) → r ≡ Stopped m → from_start net plan (walk net net.start) ≡ refused 9 m
-  start_stops m e = ap (from_start net plan) (ap (walk net) (sym h.start) ∙ found_stop net ns t.count t.out h.stored s.marking.bits s.marking.known r s.way found m e)
+  pub start_stops : (e : Refusal) → Err e ≡ told_as (λ m. record { kind = Start; place = m }) r → from_start net plan (walk net net.start) ≡ refused (number_of e.kind) e.place
+  start_stops e q = go r refl q
+    where
+      go : (x : Answer PathSize ℕ) → r ≡ x → Err e ≡ told_as (λ m. record { kind = Start; place = m }) x → from_start net plan (walk net net.start) ≡ refused (number_of e.kind) e.place
+      go (Ok size) f q = absurd (cc q)
+      go (Err m) f q =
+          let same : e ≡ record { kind = Start; place = m } = cc q in
+          rw same (ap (from_start net plan) (ap (walk net) (sym h.start) ∙ found_stop net ns t.count t.out h.stored s.marking.bits s.marking.known r s.way found m f))
 
-  pub start_on : (n len : ℕ) → r ≡ Path n len → OnPath net ns t n len s
-  start_on n len e = record {
+  pub start_on : (size : PathSize) → r ≡ Ok size → OnPath net ns t size s
+  start_on size e = record {
     stored = h.stored;
-    found = found_path net ns t.count t.out h.stored s.marking.bits s.marking.known r s.way found n len e;
+    found = found_path net ns t.count t.out h.stored s.marking.bits s.marking.known r s.way found size e;
     in_limits = h.in_limits;
     sized = h.sized;
-    slots = h.slots;
+    slots_law = h.slots_law;
   }
 
-  pub start_runs : (n len : ℕ) → r ≡ Path n len → run_from net 1 (path_at ns n s) (config_at ns t s.marking) plan ≡ from_start net plan (walk net net.start)
-  start_runs n len e = rw h.start (sym (ap (from_start net plan) (ap (walk net) (sym h.start) ∙ (start_on n len e).found.walks)))
+  pub start_runs : (size : PathSize) → r ≡ Ok size → run_from net 1 (path_at ns size.segments s) (config_at ns t s.marking) plan ≡ from_start net plan (walk net net.start)
+  start_runs size e = rw h.start (sym (ap (from_start net plan) (ap (walk net) (sym h.start) ∙ (start_on size e).found.walks)))

@@ -1,3 +1,2 @@
--- Laws of the rows and of the judgement.
-pub mod Rows
+-- Laws of the judgement.
 pub mod Judging

@@ -1,43 +1,41 @@
 -- The marker's answer in the model's terms.
 -- Assumes nothing.
-use Rattle.std.specs.Prelude.{◌≡◌, List, ℕ, ◌≤◌, length, get_or, replicate}
-use Rattle.model.specs.Result.{Result, ok, refused}
-use Rattle.model.specs.Network.{tabulate}
-use Rattle.model.specs.Mark.{Got, Pass}
-use Rattle.marker_targets.specs.declared.Verdict.{Verdict}
-use Rattle.marker_targets.specs.declared.Verdict.TheVariants.{Pass as Passed, Refused}
+use Rattle.std.specs.Prelude.{◌≡◌, List, map, ℕ, ◌≤◌, length, get_or, take, replicate, IfOk}
+use Rattle.std.specs.Prelude.{Result as Answer}
+use Rattle.model.specs.Answers.{answer}
+use Rattle.model.specs.Result.{Result}
+use Rattle.model.specs.declared.refusal.Refusal.{Refusal}
+use Rattle.model.specs.Mark.{Got as ModelGot, Pass as ModelPass}
+use Rattle.marker_targets.specs.declared.Got.{Got}
 use Rattle.marker_targets.specs.declared.Gots.{Gots}
-use Rattle.marker_targets.specs.declared.Mark.{Mark}
+use Rattle.marker_targets.specs.declared.Pass.{Pass}
 
-abbrev pub got_row : Gots → ℕ → Got
-got_row g i = record { target_number = get_or g.targets i 0; operation = get_or g.operations i 0; at_place = get_or g.places i 0 }
+abbrev pub got_of : Got → ModelGot
+got_of g = record { target_number = g.target; operation = g.operation; at_place = g.place }
 
-abbrev pub gots_of : Gots → List Got
-gots_of g = tabulate (got_row g) 0 g.count
+-- the rows
+abbrev pub gots_of : Gots → List ModelGot
+gots_of g = map got_of (take g.count g.rows)
 
--- number and values of each case
-abbrev pub verdict_of : Verdict → List Got → Result Pass
-verdict_of (Passed lines clocks) gs = ok record { operations = lines; clocks = clocks; gots = gs }
-verdict_of (Refused number place) gs = refused number place
+abbrev pub pass_of : Pass → ModelPass
+pass_of p = record { operations = p.operations; clocks = p.clocks; gots = gots_of p.gots }
 
-abbrev pub mark_of : Mark → Result Pass
-mark_of m = verdict_of m.verdict (gots_of m.gots)
+abbrev pub mark_of : Answer Pass Refusal → Result ModelPass
+mark_of r = answer pass_of r
 
--- ---- the columns beyond the rows
+-- ---- behind the rows
+
+abbrev pub no_got : Got
+no_got = record { target = 0; operation = 0; place = 0 }
 
 pub record ZerosBehind (g : Gots) : Type 0 where
   pub few : g.count ≤ 4
-  pub targets_size : length g.targets ≡ 4
-  pub operations_size : length g.operations ≡ 4
-  pub places_size : length g.places ≡ 4
-  pub zeros : (i : ℕ) → g.count ≤ i → got_row g i ≡ record { target_number = 0; operation = 0; at_place = 0 }
+  pub size : length g.rows ≡ 4
+  pub zeros : (i : ℕ) → g.count ≤ i → get_or g.rows i no_got ≡ no_got
 
 abbrev pub no_gots : Gots
-no_gots = record { count = 0; targets = replicate 4 0; operations = replicate 4 0; places = replicate 4 0 }
+no_gots = record { count = 0; rows = replicate 4 no_got }
 
-abbrev pub refused_mark : ℕ → ℕ → Mark
-refused_mark number place = record { verdict = Refused number place; gots = no_gots }
-
-abbrev pub RowsFor : Verdict → Gots → Type 0
-RowsFor (Passed lines clocks) g = ZerosBehind g
-RowsFor (Refused number place) g = g ≡ no_gots
+-- a pass has zeros behind its rows
+abbrev pub RowsFor : Answer Pass Refusal → Type 0
+RowsFor r = IfOk r (λ p. ZerosBehind p.gots)

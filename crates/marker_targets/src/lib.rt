@@ -3,36 +3,41 @@
 
 ghost use Rattle.std.specs.Prelude.{◌≡◌, ◌≤◌, ◌<◌};
 ghost use Rattle.model.specs.Mark.{holds_bits};
-ghost use Rattle.model.specs.Network.{tabulate};
+ghost use Rattle.model.specs.Limits.{max_nodes};
+ghost use Rattle.model.specs.Network.{tabulate, len_of};
 ghost use Rattle.network_words.specs.Words.{word_width, word_bit, trits_of};
+ghost use Rattle.network_path.specs.Answers.{ConfigSized};
+ghost use Rattle.network_path.specs.Layout.{node_at};
 ghost use Rattle.marker_operations.specs.Operations.{marking};
-ghost use Rattle.marker_targets.specs.Answers.{no_gots, ZerosBehind, refused_mark, RowsFor};
-ghost use Rattle.marker_targets.specs.Targets.{Pushed, Judgeable, target_held, Judges};
+ghost use Rattle.marker_targets.specs.Answers.{no_gots, ZerosBehind, RowsFor};
+ghost use Rattle.marker_targets.specs.Targets.{Pushed, Judgeable, segment_held, Judges};
 
-use model::refusal;
+use marker_operations::Met;
+use model::refusal::{Kind, Refusal};
 use network_draft::store::Summary;
-use network_path::layout::{Nodes, Words, segment_len, wide};
+use network_path::layout::{Nodes, Words, segment_len};
 use network_words::{Word, bit_at};
 
-// `pass` with the counts of operations and of clocks, or a refusal's number and place.
-#[derive(Drop)]
-pub enum Verdict {
-    Pass(usize, usize),
-    Refused(usize, usize),
+// A `got` row: a target's number, the first operation with it on its path, and the place of its bit 0 there.
+#[derive(Clone, Copy)]
+pub struct Got {
+    pub target: usize,
+    pub operation: usize,
+    pub place: usize,
 }
 
-// The `got` rows: the first count entries of each column; zeros behind them.
-#[derive(Drop)]
+// The first count rows; rows of zeros behind them.
+#[derive(Clone, Copy)]
 pub struct Gots {
     pub count: usize,
-    pub targets: [usize; 4],
-    pub operations: [usize; 4],
-    pub places: [usize; 4],
+    pub rows: [Got; 4],
 }
 
-#[derive(Drop)]
-pub struct Mark {
-    pub verdict: Verdict,
+// `pass` with the counts of operations and of clocks, and the `got` rows.
+#[derive(Clone, Copy)]
+pub struct Pass {
+    pub operations: usize,
+    pub clocks: usize,
     pub gots: Gots,
 }
 
@@ -41,39 +46,23 @@ fn no_gots() -> Gots
 {
     Gots {
         count: 0,
-        targets: [0; 4],
-        operations: [0; 4],
-        places: [0; 4],
-    }
-}
-
-pub fn refused(number: usize, place: usize) -> Mark
-    ensures { result ≡ refused_mark number place }
-{
-    Mark {
-        verdict: Verdict::Refused(number, place),
-        gots: no_gots(),
+        rows: [Got {
+            target: 0,
+            operation: 0,
+            place: 0,
+        }; 4],
     }
 }
 
 // One more row.
-fn push(old: Gots, target: usize, operation: usize, place: usize) -> Gots
+fn push(old: Gots, row: Got) -> Gots
     requires { ZerosBehind old × (old.count < 4) }
-    ensures { Pushed old target operation place result }
+    ensures { Pushed old row result }
 {
-    let at = old.count;
-    let mut targets = old.targets;
-    let mut operations = old.operations;
-    let mut places = old.places;
-    targets[at] = target;
-    operations[at] = operation;
-    places[at] = place;
-    Gots {
-        count: at + 1,
-        targets,
-        operations,
-        places,
-    }
+    let mut gots = old;
+    gots.rows[gots.count] = row;
+    gots.count += 1;
+    gots
 }
 
 // Whether len bits of a segment are all known and those of want.
@@ -81,60 +70,63 @@ fn holds_bits(bits: Word, known: Word, want: Word, len: usize) -> bool
     requires { len ≤ word_width }
     ensures { result ≡ holds_bits (trits_of len bits known) (tabulate (word_bit want) 0 len) }
 {
-    let mut b: usize = 0;
-    while b < len {
+    for b in 0..len {
         if bit_at(known, b) == 0 {
             return false;
         }
         if bit_at(bits, b) != bit_at(want, b) {
             return false;
         }
-        b += 1;
     }
     true
 }
 
-// Whether write target i holds its bits.
-fn is_held<'a>(nodes: &'a Nodes, t: Summary, bits: &'a Words, known: &'a Words, i: usize) -> bool
-    requires { Judgeable nodes.now t bits.now known.now × (i < t.target_count) }
-    ensures { result ≡ target_held nodes.now t bits.now known.now i }
+// Whether segment s holds the bits of want.
+fn is_held<'a>(nodes: &'a Nodes, bits: &'a Words, known: &'a Words, s: usize, want: Word) -> bool
+    requires { (s ≤ max_nodes) × ConfigSized bits.now known.now × (len_of (node_at nodes.now s) ≤ word_width) }
+    ensures { result ≡ segment_held nodes.now bits.now known.now s want }
 {
-    let s = wide(t.target_segment[i]);
-    holds_bits(bits[s], known[s], t.target_bits[i], segment_len(nodes, s))
+    holds_bits(bits[s], known[s], want, segment_len(nodes, s))
 }
 
-// The targets in turn, the first operation with each on its path being in first, 0 for none, and its place there in places.
+// The targets in turn, the first operation with each on its path being in met, and its place there.
 pub fn judge<'a>(
     nodes: &'a Nodes,
     t: Summary,
     bits: &'a Words,
     known: &'a Words,
-    first: &'a [usize; 4],
-    places: &'a [usize; 4],
-    lines: usize,
+    met: &'a [Option<Met>; 4],
+    operations: usize,
     clocks: usize,
-) -> Mark
+) -> Result<Pass, Refusal>
     requires { Judgeable nodes.now t bits.now known.now }
-    ensures judges { Judges nodes.now t (marking bits.now known.now first.now places.now) lines clocks result }
-    ensures rows_for { RowsFor result.verdict result.gots }
+    ensures judges { Judges nodes.now t (marking bits.now known.now met.now) operations clocks result }
+    ensures rows_for { RowsFor result }
 {
     let mut gots = no_gots();
-    let mut i: usize = 0;
-    while i < t.target_count {
-        if first[i] == 0 {
-            return refused(refusal::TARGET, i + 1);
-        }
-        if t.target_write[i] == 1 {
-            if !is_held(nodes, t, bits, known, i) {
-                return refused(refusal::TARGET, i + 1);
+    for i in 0..t.target_count {
+        let refusal = Kind::Target.at(i + 1);
+        let first = met[i].ok_or(refusal)?;
+        let target = t.targets[i];
+        match target.write {
+            Some(want) => {
+                if !is_held(nodes, bits, known, usize::from(target.segment), want) {
+                    return Err(refusal);
+                }
             }
-        } else {
-            gots = push(gots, i + 1, first[i], places[i]);
+            None => {
+                let row = Got {
+                    target: i + 1,
+                    operation: first.operation,
+                    place: first.place,
+                };
+                gots = push(gots, row);
+            }
         }
-        i += 1;
     }
-    Mark {
-        verdict: Verdict::Pass(lines, clocks),
+    Ok(Pass {
+        operations,
+        clocks,
         gots,
-    }
+    })
 }

@@ -2,7 +2,7 @@
 -- line keeps it.
 -- Assumes nothing.
 use Rattle.std.specs.Prelude.{◌≡◌, false, ℕ, suc, ◌≤◌, ◌<◌, length, get_or}
-use Rattle.std.proofs.Math.Option.{none, some}
+use Rattle.std.specs.Prelude.{None as none, Some as some}
 use mathlib.Core.List.{List, [], Memᴰ}
 use Rattle.model.specs.Limits.{max_nodes, max_bits, max_len}
 use Rattle.model.specs.Network.{segment, Node, multiplexer, at, no_node, len_of, total_bits, Held}

@@ -1,7 +1,7 @@
 -- What document 02, Change 4, "Registers up to 64 bits", promises; proofs/Requests.antt proves it.
 -- Assumes nothing.
 use Rattle.std.specs.Prelude.{◌≡◌, Bool, false, List, ℕ, ◌≤◌, ◌<◌, length, take}
-use Rattle.std.proofs.Math.Option.{some}
+use Rattle.std.specs.Prelude.{Some as some}
 use Rattle.model.specs.Limits.{max_plan_bytes}
 use Rattle.model.specs.Refusals as refusal
 use Rattle.model.specs.Result.{Result, ok, refused, and_then}

@@ -1,7 +1,7 @@
 -- What document 02, Change 5, "Add up the path from the other end", promises; proofs/Requests.antt proves it.
 -- Assumes nothing.
 use Rattle.std.specs.Prelude.{◌≡◌, cond, ℕ, zero, suc, ◌+◌, ◌≤◌, leb}
-use Rattle.std.proofs.Math.Option.{Option, none, some}
+use Rattle.std.specs.Prelude.{Option, None as none, Some as some}
 use mathlib.Core.List.{List, [], ◌∷◌, Memᴰ}
 use Rattle.model.specs.Result.{ok}
 use Rattle.model.specs.Text.{Bytes, Trit, bind}

@@ -1,7 +1,7 @@
 -- The table of refusals: a row for each number, with the places that it can have (document 01, "Numbers and places"; document 02).
 -- Assumes nothing.
 use Rattle.std.specs.Prelude.{◌≡◌, Bool, ◌⊎◌, List, [], ℕ, suc, ◌≤◌, ◌<◌, length}
-use Rattle.std.proofs.Math.Option.{none, some}
+use Rattle.std.specs.Prelude.{None as none, Some as some}
 use Rattle.model.specs.Limits.{max_targets, max_network_bytes, max_operations, max_plan_bytes, max_steering_bits, search_size}
 use Rattle.model.specs.Refusals as refusal
 use Rattle.model.specs.Result.{Result, ok, refused}

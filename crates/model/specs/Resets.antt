@@ -1,7 +1,7 @@
 -- What document 02, Change 1, "Reset bits in the segment line", promises; proofs/Requests.antt proves it.
 -- Assumes nothing.
 use Rattle.std.specs.Prelude.{◌≡◌, false, ◌↔◌, ℕ, suc, ◌+◌, length, replicate, leb, ltb}
-use Rattle.std.proofs.Math.Option.{Option, none, some}
+use Rattle.std.specs.Prelude.{Option, None as none, Some as some}
 use mathlib.Core.List.{List, [], ◌∷◌, Memᴰ}
 use Rattle.model.specs.Limits.{max_nodes, max_bits, max_network_bytes, max_len}
 use Rattle.model.specs.Refusals as refusal

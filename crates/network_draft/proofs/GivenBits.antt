@@ -2,7 +2,7 @@
 -- Assumes nothing.
 use mathlib.Core.Path.{◌≡◌, refl, sym, ap, ◌∙◌}
 use mathlib.Core.Bool.{Bool, true, false, cond, ◌||◌}
-use mathlib.Core.Option.{Option, some}
+use Rattle.std.specs.Prelude.{Option, Some as some, unwrap_or}
 use mathlib.Core.List.{List, [], ◌∷◌, ◌++◌, map}
 use Prim.Native.Nat.{ℕ, ◌≤◌, ◌<◌}
 use native.Mathlib.Omega.{arith}
@@ -18,7 +18,7 @@ use Rattle.network_words.specs.Words.{trits_of, word_of_bits, is_set, is_known, 
 use Rattle.network_words.proofs.FieldLaws.{trits_of_field, bits_word_of, known_word_of}
 use Rattle.network_path.specs.Layout.{node_at}
 use Rattle.text.proofs.Bits.{is_some_law, from_length}
-use Rattle.network_line.specs.Line.{bits_in, value_or}
+use Rattle.network_line.specs.Line.{bits_in}
 use Rattle.network_draft.specs.declared.store.Summary.{Summary}
 use Rattle.network_draft.specs.Store.{by_hold, by_reset}
 use Rattle.network_draft.specs.Represents.{start_flag, given_or, Arrays, Represents}
@@ -26,7 +26,7 @@ use Rattle.network_draft.specs.Represents.{start_flag, given_or, Arrays, Represe
 -- ---- the bits of a field of good form
 
 pub bits_are : {A : Type 0} (one : ℕ → Option A) (f : Bytes) → is_some (bits_from one [] f) ≡ true → bits_from one [] f ≡ some (bits_in one f)
-bits_are one f e = let r = is_some_law (bits_from one [] f) e in r.1 ∙ ap some (sym (ap (value_or []) r.1))
+bits_are {A} one f e = let r = is_some_law (bits_from one [] f) e in r.1 ∙ ap some (sym (ap (λ (o : Option (List A)). unwrap_or o []) r.1))
 
 pub bits_in_length : {A : Type 0} (one : ℕ → Option A) (f : Bytes) → is_some (bits_from one [] f) ≡ true → length (bits_in one f) ≡ length f
 bits_in_length one f e = omega (arith, from_length one f [] (bits_in one f) (bits_are one f e))

@@ -10,7 +10,6 @@ use lib.ListN.{length, get_or, get_or-eq_default}
 use lib.Dec.{leb, ltb}
 use borrow.Author.Tests.{ltb-false}
 use Rattle.model.specs.Limits.{max_len}
-use Rattle.model.specs.Result.{Result, ok, refused}
 use Rattle.model.specs.Network.{Node, segment, multiplexer, no_node, len_of, steers, steers_at, at}
 use Rattle.model.specs.Path.{node_of}
 use Rattle.model.specs.NetworkText.{Draft, has_out, is_some, outside}
@@ -19,24 +18,10 @@ use Rattle.model.proofs.Lists.{or_parts, length_tabulate, get_d_tabulate, or_fal
 use Rattle.network_words.specs.Words.{word_width}
 use Rattle.network_path.specs.Layout.{field_at, node_at, nodes_of}
 use Rattle.network_draft.specs.declared.store.Summary.{Summary}
-use Rattle.network_draft.specs.declared.add.Refusal.{Refusal}
-use Rattle.network_draft.specs.declared.add.Refusal.TheVariants.{Nothing, Refused}
 use Rattle.network_draft.specs.Store.{NumbersStored}
 use Rattle.network_draft.specs.Numbers.{numbers_for}
-use Rattle.network_draft.specs.Represents.{feeds_of, Formed, Short, Arrays, Represents, Agrees}
+use Rattle.network_draft.specs.Represents.{feeds_of, Formed, Short, Arrays, Represents}
 use Rattle.network_draft.proofs.Nodes.{node_by_fields, node_numbers_law}
-
--- ---- answers
-
-pub agrees_refused : (D : Draft → Type 0) (a : Result Draft) (r : Refusal) (number place : ℕ) → a ≡ refused number place → r ≡ Refused number place → Agrees D a r
-agrees_refused D a r number place e f = subst (λ (x : Result Draft). Agrees D x r) (sym e) f
-
-pub agrees_ok : (D : Draft → Type 0) (a : Result Draft) (r : Refusal) (d : Draft) → a ≡ ok d → r ≡ Nothing → D d → Agrees D a r
-agrees_ok D a r d e f x = subst (λ (y : Result Draft). Agrees D y r) (sym e) (f, x)
-
--- what agrees with one of two equal results agrees with the other
-pub agrees_same : (D : Draft → Type 0) (a b : Result Draft) (r : Refusal) → a ≡ b → Agrees D b r → Agrees D a r
-agrees_same D a b r e f = subst (λ (x : Result Draft). Agrees D x r) (sym e) f
 
 -- ---- one element more
 

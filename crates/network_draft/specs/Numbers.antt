@@ -1,10 +1,12 @@
 -- The numbers that stand for a node and for a target. Where there is no node or no target, all are 0.
 -- Assumes nothing.
 use Rattle.std.specs.Prelude.{◌≡◌, cond, List, [], ◌∷◌, ℕ, ◌<◌, length, get_or}
+use Rattle.std.specs.Prelude.{Option, None as none, Some as some}
 use Rattle.model.specs.Network.{Node, segment, multiplexer, Target, read, write, at, no_node}
 use Rattle.model.specs.NetworkText.{target_segment}
 use Rattle.network_words.specs.Words.{word_of_bits}
 use Rattle.network_path.specs.Layout.{field_at}
+use Rattle.network_draft.specs.declared.store.Target.{Target as StoredTarget}
 use Rattle.network_draft.specs.declared.store.Summary.{Summary}
 
 -- ---- nodes
@@ -23,19 +25,14 @@ NodesStored ns nodes = (k i : ℕ) → i < 8 → field_at ns k i ≡ get_or (num
 abbrev pub no_target : Target
 no_target = read 0
 
-abbrev pub target_flag : Target → ℕ
-target_flag (read s) = 0
-target_flag (write s bs) = 1
+-- the word of a `write`
+abbrev pub target_word : Target → Option ℕ
+target_word (read s) = none
+target_word (write s bs) = some (word_of_bits bs)
 
-abbrev pub target_word : Target → ℕ
-target_word (read s) = 0
-target_word (write s bs) = word_of_bits bs
+abbrev pub stored_target : Target → StoredTarget
+stored_target x = record { segment = target_segment x; write = target_word x }
 
-pub record TargetStored (segment flag word : ℕ) (x : Target) : Type 0 where
-  pub segment_is : segment ≡ target_segment x
-  pub flag_is : flag ≡ target_flag x
-  pub word_is : word ≡ target_word x
-
--- the numbers of every target
+-- how every target is stored
 abbrev pub TargetsStored : Summary → List Target → Type 0
-TargetsStored t ts = (i : ℕ) → TargetStored (get_or t.target_segment i 0) (get_or t.target_write i 0) (get_or t.target_bits i 0) (get_or ts i no_target)
+TargetsStored t ts = (i : ℕ) → get_or t.targets i (stored_target no_target) ≡ stored_target (get_or ts i no_target)

@@ -1,48 +1,51 @@
 -- The arrays and the summary represent a draft: what the reader has at each line, in the model's terms.
 -- Assumes nothing.
-use Rattle.std.specs.Prelude.{◌≡◌, Bool, true, false, cond, ◌&&◌, List, [], ℕ, zero, suc, ◌≤◌, ◌<◌, length, get_or, replicate, eqb}
+use Rattle.std.specs.Prelude.{◌≡◌, Bool, true, false, cond, ◌&&◌, List, [], ℕ, ◌≤◌, ◌<◌, length, get_or, replicate, eqb, is_some}
 use Rattle.std.specs.Bool.{beq}
-use Rattle.std.proofs.Math.Option.{Option, none, some}
+use Rattle.std.specs.Prelude.{Option, None as none, Some as some, Result as Answer, Ok, Err}
 use Rattle.model.specs.Limits.{max_bits, max_nodes}
 use Rattle.model.specs.Result.{Result, ok, refused}
+use Rattle.model.specs.Answers.{number_of}
+use Rattle.model.specs.declared.refusal.Refusal.{Refusal}
 use Rattle.model.specs.Text.{Trit}
 use Rattle.model.specs.Network.{Target, read, write, len_of, total_bits, tabulate, steers, held_or}
-use Rattle.model.specs.NetworkText.{Draft, is_held, is_target}
+use Rattle.model.specs.NetworkText.{Draft, is_held}
 use Rattle.model.specs.Drafted.{GoodForm, Sound}
 use Rattle.network_words.specs.Words.{word_width, word_bit, trits_of, bits_word, known_word}
 use Rattle.network_path.specs.Layout.{node_at, nodes_of, node_fields, node_numbers}
 use Rattle.network_draft.specs.Store.{by_hold, by_reset, Small}
-use Rattle.network_draft.specs.Numbers.{NodesStored, TargetsStored}
+use Rattle.network_draft.specs.Numbers.{no_target, stored_target, NodesStored, TargetsStored}
+use Rattle.network_draft.specs.declared.store.Target.{Target as StoredTarget}
 use Rattle.network_draft.specs.declared.store.Summary.{Summary}
-use Rattle.network_draft.specs.declared.add.Refusal.{Refusal}
-use Rattle.network_draft.specs.declared.add.Refusal.TheVariants.{Nothing, Refused}
 
 abbrev pub feeds_of : Bool → ℕ → Option ℕ
 feeds_of false k = none
 feeds_of true k = some k
 
--- target i, counted from 0
+-- the target of segment s with this word
+abbrev pub target_with : List ℕ → ℕ → Option ℕ → Target
+target_with ns s none = read s
+target_with ns s (some word) = write s (tabulate (word_bit word) 0 (len_of (node_at ns s)))
+
+-- target i, counted from 0, as it is stored
+abbrev pub stored_at : Summary → ℕ → StoredTarget
+stored_at t i = get_or t.targets i (stored_target no_target)
+
+-- target i
 abbrev pub target_at : List ℕ → Summary → ℕ → Target
-target_at ns t i =
-    cond (eqb (get_or t.target_write i 0) 1)
-    (write (get_or t.target_segment i 0) (tabulate (word_bit (get_or t.target_bits i 0)) 0 (len_of (node_at ns (get_or t.target_segment i 0)))))
-    (read (get_or t.target_segment i 0))
+target_at ns t i = target_with ns (stored_at t i).segment (stored_at t i).write
 
 abbrev pub targets_of : List ℕ → Summary → List Target
 targets_of ns t = tabulate (target_at ns t) 0 t.target_count
 
--- a target by its word
+-- a target by its word: `write`, or `read`
 abbrev pub target_for : Bool → ℕ → List Bool → Target
 target_for false s bs = read s
 target_for true s bs = write s bs
 
 -- a stored target has this segment and this word
-abbrev pub same_word : ℕ → ℕ → ℕ → Bool → Bool
-same_word segment word s w = eqb segment s && beq (eqb word 1) w
-
--- whether the targets have one with this segment and this word
-abbrev pub IsThere : Summary → ℕ → Bool → Bool → Type 0
-IsThere t s w r = (ns : List ℕ) (bs : List Bool) → r ≡ is_target (targets_of ns t) (target_for w s bs)
+abbrev pub same_word : StoredTarget → ℕ → Bool → Bool
+same_word x s w = eqb x.segment s && beq (is_some x.write) w
 
 -- each node has good form
 abbrev pub Formed : List ℕ → ℕ → Type 0
@@ -60,19 +63,12 @@ start_flag d s = cond (is_held d.holds s) by_hold (cond (is_held d.resets s) by_
 abbrev pub given_or : List Trit → Draft → ℕ → List Trit
 given_or other d s = held_or (held_or other d.resets s) d.holds s
 
--- a number, or 0 for none
-abbrev pub if_nonzero : ℕ → Option ℕ
-if_nonzero zero = none
-if_nonzero (suc k) = some (suc k)
-
 -- the counts are within the arrays
 pub record InLimits (t : Summary) : Type 0 where
   pub nodes_fit : t.count ≤ max_nodes
   pub bits_fit : t.total ≤ max_bits
   pub targets_fit : t.target_count ≤ 4
-  pub segments : length t.target_segment ≡ 4
-  pub words : length t.target_write ≡ 4
-  pub bits : length t.target_bits ≡ 4
+  pub targets_room : length t.targets ≡ 4
 
 -- the five arrays that the reader fills
 pub record Arrays : Type 0 where
@@ -122,15 +118,15 @@ empty_summary = record {
   has_out = false;
   out = 0;
   target_count = 0;
-  target_segment = replicate 4 0;
-  target_write = replicate 4 0;
-  target_bits = replicate 4 0;
+  targets = replicate 4 (stored_target no_target);
 }
 
 abbrev pub Drafted : Arrays → Summary → ℕ → Type 0
 Drafted a t n = (d : Draft) × Represents a t d n
 
--- an answer that agrees with the model's: the refusal, or nothing refused and D of the new draft
-abbrev pub Agrees : (Draft → Type 0) → Result Draft → Refusal → Type 0
-Agrees D (ok e) r = (r ≡ Nothing) × D e
-Agrees D (refused number place) r = r ≡ Refused number place
+-- what adding a line answers agrees with the model's answer: P of what it gives and the new draft, or the refusal's number and place
+abbrev pub Agrees : {A : Type 0} → (A → Draft → Type 0) → Result Draft → Answer A Refusal → Type 0
+Agrees P (ok e) (Ok a) = P a e
+Agrees P (ok e) (Err r) = ⊥
+Agrees P (refused number place) (Ok a) = ⊥
+Agrees P (refused number place) (Err r) = (number_of r.kind ≡ number) × (r.place ≡ place)

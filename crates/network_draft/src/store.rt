@@ -1,5 +1,5 @@
 // The network as far as it is read: counts and targets go by value, the arrays are lent.
-ghost use Rattle.std.specs.Prelude.{◌≡◌, cond, ◌≤◌, length, ltb};
+ghost use Rattle.std.specs.Prelude.{◌≡◌, ◌≤◌, length};
 ghost use Rattle.network_path.specs.Layout.{node_fields, node_numbers};
 ghost use Rattle.model.specs.Limits.{max_nodes};
 ghost use Rattle.network_line.specs.Line.{node_for, SmallNode};
@@ -9,10 +9,17 @@ ghost use Rattle.network_draft.specs.Numbers.{numbers_for};
 
 use model::limits::MAX_NODES;
 use network_line::NodeData;
-use network_path::layout::{NODE_NUMBERS, Nodes, Words};
+use network_path::layout::{INPUTS, NODE_NUMBERS, Nodes, Words};
 use network_words::{WORD_BITS, Word, only_bit, words_of};
 
-// Counts, the node that feeds scan-out, and the targets: a target's word is 1 for `write` and 0 for `read`.
+// A target's segment, and the bits of a `write`; none for a `read`.
+#[derive(Clone, Copy)]
+pub struct Target {
+    pub segment: u16,
+    pub write: Option<Word>,
+}
+
+// Counts, the node that feeds scan-out, and the targets.
 #[derive(Clone, Copy)]
 pub struct Summary {
     pub count: usize,
@@ -20,43 +27,13 @@ pub struct Summary {
     pub has_out: bool,
     pub out: usize,
     pub target_count: usize,
-    pub target_segment: [u16; 4],
-    pub target_write: [u16; 4],
-    pub target_bits: [Word; 4],
+    pub targets: [Target; 4],
 }
 
 // Where a segment's start bits come from: its `hold` line, or the RESET of its own line; 0 where neither gives them.
 pub const BY_HOLD: u16 = 1;
 
 const BY_RESET: u16 = 2;
-
-pub fn narrow(x: usize) -> u16
-    requires { x ≤ 9999 }
-    ensures { result ≡ x }
-{
-    x as u16
-}
-
-// A flag as a number.
-pub fn flag_of(flag: bool) -> u16
-    ensures { result ≡ cond flag 1 0 }
-{
-    if flag {
-        return 1;
-    }
-    0
-}
-
-// Input i, or 0 for one that a multiplexer of count inputs lacks.
-fn input_if(i: usize, count: usize, x: usize) -> u16
-    requires { x ≤ 9999 }
-    ensures { result ≡ cond (ltb i count) x 0 }
-{
-    if i < count {
-        return narrow(x);
-    }
-    0
-}
 
 // The eight numbers of a node.
 pub fn numbers_of(x: NodeData) -> [u16; 8]
@@ -65,26 +42,20 @@ pub fn numbers_of(x: NodeData) -> [u16; 8]
 {
     match x {
         NodeData::Segment { from, len, shadow } => {
-            [flag_of(shadow), narrow(from), narrow(len), 0, 0, 0, 0, 0]
+            [u16::from(shadow), from as u16, len as u16, 0, 0, 0, 0, 0]
         }
         NodeData::Multiplexer {
             seg,
             bit,
             count,
-            a,
-            b,
-            c,
-            d,
-        } => [
-            narrow(count),
-            narrow(seg),
-            narrow(bit),
-            0,
-            narrow(a),
-            narrow(b),
-            input_if(2, count, c),
-            input_if(3, count, d),
-        ],
+            inputs,
+        } => {
+            let mut numbers = [count as u16, seg as u16, bit as u16, 0, 0, 0, 0, 0];
+            for i in 0..count {
+                numbers[INPUTS + i] = inputs[i] as u16;
+            }
+            numbers
+        }
     }
 }
 
@@ -94,21 +65,14 @@ pub fn store_numbers(nodes: &mut Nodes, k: usize, numbers: [u16; 8])
     ensures { NumbersStored nodes.old k numbers nodes.new }
 {
     let base = k * 8;
-    let mut i: usize = 0;
-    while i < 8 {
-        nodes[base + i] = numbers[i];
-        i += 1;
-    }
+    nodes[base..base + 8].copy_from_slice(&numbers);
 }
 
 // Where the start bits of a segment come from behind its own line, whose RESET has so many bits; 0 stands for no RESET.
 pub fn reset_flag(reset: usize) -> u16
     ensures { result ≡ reset_flag reset }
 {
-    if reset == 0 {
-        return 0;
-    }
-    BY_RESET
+    if reset == 0 { 0 } else { BY_RESET }
 }
 
 // The two words of a BITS or RESET field go to node s, with where they come from.
@@ -134,25 +98,16 @@ pub fn mark_steering(steering: &mut Words, x: NodeData)
     requires { (SmallNode x) × (length steering.old ≡ node_numbers) }
     ensures { Marked steering.old (node_for x) steering.new }
 {
-    match x {
-        NodeData::Segment {
-            from: _,
-            len: _,
-            shadow: _,
-        } => {}
-        NodeData::Multiplexer {
-            seg,
-            bit,
-            count,
-            a: _,
-            b: _,
-            c: _,
-            d: _,
-        } => {
-            mark_bit(steering, seg, bit);
-            if 2 < count {
-                mark_bit(steering, seg, bit + 1);
-            }
+    if let NodeData::Multiplexer {
+        seg,
+        bit,
+        count,
+        ..
+    } = x
+    {
+        mark_bit(steering, seg, bit);
+        if 2 < count {
+            mark_bit(steering, seg, bit + 1);
         }
     }
 }
@@ -162,12 +117,8 @@ pub fn mark_bit(steering: &mut Words, s: usize, b: usize)
     requires { length steering.old ≡ node_numbers }
     ensures { BitMarked steering.old s b steering.new }
 {
-    if MAX_NODES < s {
+    if MAX_NODES < s || WORD_BITS <= b {
         return;
     }
-    if WORD_BITS <= b {
-        return;
-    }
-    let w = steering[s];
-    steering[s] = w | only_bit(b);
+    steering[s] |= only_bit(b);
 }

@@ -1,4 +1,5 @@
--- Laws of the definitions, for this crate's proofs and for its callers.
+-- Laws of a line's fields and of a node's bounds.
 pub mod Lines
 pub mod SegLines
+pub mod MuxLines
 pub mod Bounds

@@ -2,77 +2,58 @@
 -- Assumes nothing.
 use mathlib.Core.Path.{◌≡◌, refl, sym, ap, ◌∙◌}
 use mathlib.Core.Bool.{Bool, true, false}
-use mathlib.Core.Option.{Option, none, some}
+use Rattle.std.specs.Prelude.{Option, None as none, Some as some, option_map}
 use mathlib.Core.List.{List, [], ◌∷◌}
 use Prim.Native.Nat.{ℕ, ◌≤◌, ◌<◌}
 use native.Mathlib.Omega.{arith}
-use native.Mathlib.Decide.{dec_lt}
+use mathlib.Core.Logic.{◌⊎◌, inl, inr}
 use lib.ListN.{length, drop, drop_of_length-le}
 use lib.Seq.{drop-cons}
 use borrow.Author.Tests.{le-leb, lt-leb}
 use Rattle.model.specs.Text.{Bytes, bind, decimal, bits_from, bits_field, Trit, trit}
-use Rattle.model.specs.Network.{segment}
-use Rattle.model.specs.NetworkText.{Reset, Line, node, field, kind, reset_field, seg_line, is_some}
+use Rattle.model.specs.Network.{Node, segment}
+use Rattle.model.specs.NetworkText.{Reset, node, field, kind, reset_field, seg_line, is_some}
 use Rattle.model.proofs.LineForms.{seg_none}
 use Rattle.model.proofs.Lists.{none_some}
 use Rattle.text.specs.Bits.{bits_form}
 use Rattle.text.proofs.Bits.{is_some_law, is_none, field_from}
-use Rattle.network_line.specs.Line.{kind_for, reset_in, segment_with, IsEntry, SaysSegment}
-use Rattle.network_line.specs.declared.NodeData.TheVariants.{Segment}
-use Rattle.network_line.specs.declared.Entry.{Entry}
-use Rattle.network_line.specs.declared.Entry.TheVariants.{Wrong, Node as NodeEntry}
-use Rattle.network_line.specs.declared.Kind.{Kind}
-use Rattle.network_line.specs.declared.Kind.TheVariants.{Shadow, Plain, Unknown}
-use Rattle.network_line.proofs.Lines.{wrong}
-
--- ---- FROM, LEN and KIND
-
-abbrev pub seg_entry : ℕ → ℕ → Kind → Entry
-seg_entry from len Shadow = NodeEntry (Segment from len true)
-seg_entry from len Plain = NodeEntry (Segment from len false)
-seg_entry from len Unknown = Wrong
-
-module _ (fs : List Bytes) (v : Reset) where
-  by_parts : (from len : Option ℕ) (shadow : Option Bool) → decimal (field fs 1) ≡ from → decimal (field fs 2) ≡ len → kind (field fs 3) ≡ shadow
-      → bind from (λ f. bind len (λ n. bind shadow (λ s. some (node (segment f n s) v)))) ≡ segment_with fs v
-  by_parts from len shadow e f g = rw (e, f, g)
-
-  pub seg_from : decimal (field fs 1) ≡ none → none ≡ segment_with fs v
-  seg_from e = by_parts none _ _ e refl refl
-
-  pub seg_len : (from : ℕ) → decimal (field fs 1) ≡ some from → decimal (field fs 2) ≡ none → none ≡ segment_with fs v
-  seg_len from e f = by_parts (some from) none _ e f refl
-
-pub seg_kind : (fs : List Bytes) (from len : ℕ) (k : Kind) → decimal (field fs 1) ≡ some from → decimal (field fs 2) ≡ some len → kind_for k ≡ kind (field fs 3)
-    → from ≤ 9999 → len ≤ 9999 → (f : Bytes) → is_some (bits_from trit [] f) ≡ true → IsEntry f (segment_with fs (reset_in f)) (seg_entry from len k)
-seg_kind fs from len Shadow d e g p q f h = record { means = by_parts fs _ _ _ _ d e (sym g); good = ((p, q), h) }
-seg_kind fs from len Plain d e g p q f h = record { means = by_parts fs _ _ _ _ d e (sym g); good = ((p, q), h) }
-seg_kind fs from len Unknown d e g p q f h = wrong (by_parts fs _ _ _ _ d e (sym g))
+use Rattle.network_line.specs.Line.{node_for, reset_in, entry_means, GoodEntry, segment_by, IsSegment}
+use Rattle.network_line.specs.declared.NodeData.{NodeData}
+use Rattle.network_line.specs.declared.Entry.TheVariants.{Node as NodeEntry}
 
 -- ---- the count of fields, and RESET
 
-pub seg_count : (fs : List Bytes) → (length fs ≡ 4 → ⊥) → (length fs ≡ 5 → ⊥) → none ≡ seg_line fs
+pub seg_count : (fs : List Bytes) (n : ℕ) → n ≡ length fs → (n < 4) ⊎ ((4 ≤ n) × (5 < n)) → none ≡ seg_line fs
 unfolding seg_line
-seg_count fs h k = go (dec_lt (length fs) 4)
+seg_count fs n e (inl l) = rw (lt-leb 4 (length fs) (omega arith))
+seg_count fs n e (inr (l, m)) = rw (le-leb 4 (length fs) (omega arith), lt-leb (length fs) 5 (omega arith))
+
+-- the segment with this RESET field
+by_reset_law : (fs : List Bytes) (o : Option Reset) → 4 ≤ length fs → length fs ≤ 5 → reset_field (drop 4 fs) ≡ o
+    → bind (segment_by fs) (λ x. bind o (λ v. some (node x v))) ≡ seg_line fs
+unfolding seg_line
+by_reset_law fs o lo hi e = rw (le-leb 4 (length fs) lo, le-leb (length fs) 5 hi, e) (go (decimal (field fs 1)) (decimal (field fs 2)) (kind (field fs 3)))
   where
-    go : Dec (length fs < 4) → none ≡ seg_line fs
-    go (yes l) = rw (lt-leb 4 (length fs) l)
-    go (no l) = rw (le-leb 4 (length fs) (omega arith), lt-leb (length fs) 5 (omega arith))
+    go : (from len : Option ℕ) (shadow : Option Bool) → bind (bind from (λ f. bind len (λ n. bind shadow (λ s. some (segment f n s))))) (λ x. bind o (λ v. some (node x v)))
+        ≡ bind from (λ f. bind len (λ n. bind shadow (λ s. bind o (λ v. some (node (segment f n s) v)))))
+    go none len shadow = refl
+    go (some f) none shadow = refl
+    go (some f) (some n) none = refl
+    go (some f) (some n) (some s) = refl
 
--- with this RESET field
-abbrev reset_with : List Bytes → Option Reset → Option Line
-reset_with fs o = bind (decimal (field fs 1)) (λ from. bind (decimal (field fs 2)) (λ len. bind (kind (field fs 3)) (λ shadow. bind o (λ v. some (node (segment from len shadow) v)))))
+-- what is made of no segment, and of one
+with_segment : (fs : List Bytes) (r : Option NodeData) (o : Option Reset) → 4 ≤ length fs → length fs ≤ 5 → IsSegment fs r → reset_field (drop 4 fs) ≡ o
+    → bind (option_map node_for r) (λ x. bind o (λ v. some (node x v))) ≡ seg_line fs
+with_segment fs r o lo hi is e = ap (λ (s : Option Node). bind s (λ x. bind o (λ v. some (node x v)))) is.means ∙ by_reset_law fs o lo hi e
 
-by_reset_law : (fs : List Bytes) (o : Option Reset) → 4 ≤ length fs → length fs ≤ 5 → reset_field (drop 4 fs) ≡ o → reset_with fs o ≡ seg_line fs
-unfolding seg_line
-by_reset_law fs o lo hi e = rw (le-leb 4 (length fs) lo, le-leb (length fs) 5 hi, e)
+pub seg_none_of : (fs : List Bytes) → 4 ≤ length fs → length fs ≤ 5 → IsSegment fs none → none ≡ seg_line fs
+seg_none_of fs lo hi is = with_segment fs none _ lo hi is refl
 
-pub seg_plain : (fs : List Bytes) (e : Entry) → length fs ≡ 4 → SaysSegment fs e → IsEntry [] (seg_line fs) e
+pub seg_plain : (fs : List Bytes) (x : NodeData) → length fs ≡ 4 → IsSegment fs (some x) → (some (entry_means [] (NodeEntry x)) ≡ seg_line fs) × GoodEntry [] (NodeEntry x)
 unfolding bits_from
-seg_plain fs e h is =
-    let i = is [] refl in
+seg_plain fs x h is =
     let l : length fs ≤ 4 = omega arith in
-    record { means = i.means ∙ by_reset_law fs (some none) (omega arith) (omega arith) (ap reset_field (drop_of_length-le fs l)); good = i.good }
+    (with_segment fs (some x) (some none) (omega arith) (omega arith) is (ap reset_field (drop_of_length-le fs l)), (is.small, refl))
 
 module _ (fs : List Bytes) (h : length fs ≡ 5) where
   last_field : (o : Option (List Trit)) → bits_field trit (field fs 4) ≡ o → reset_field (drop 4 fs) ≡ bind o (λ bs. some (some bs))
@@ -81,14 +62,13 @@ module _ (fs : List Bytes) (h : length fs ≡ 5) where
   pub seg_wrong : bits_form true (field fs 4) ≡ false → none ≡ seg_line fs
   seg_wrong e = sym (seg_none fs h (is_none _ e))
 
-  pub seg_reset : (e : Entry) → bits_form true (field fs 4) ≡ true → SaysSegment fs e → IsEntry (field fs 4) (seg_line fs) e
-  seg_reset e good is =
-      let b = is_some_law _ good in
-      let i = is (field fs 4) (ap is_some (field_from trit (field fs 4) b.0 b.1)) in
-      record {
-        means = i.means ∙ ap (segment_with fs) (is_reset (field fs 4) b.0 b.1) ∙ by_reset_law fs (some (some b.0)) (omega arith) (omega arith) (last_field (some b.0) b.1);
-        good = i.good;
-      }
+  pub seg_reset : (x : NodeData) → bits_form true (field fs 4) ≡ true → IsSegment fs (some x)
+      → (some (entry_means (field fs 4) (NodeEntry x)) ≡ seg_line fs) × GoodEntry (field fs 4) (NodeEntry x)
+  seg_reset x good is =
+      let b = is_some_law _ good in (
+        ap (λ (v : Reset). some (node (node_for x) v)) (is_reset (field fs 4) b.0 b.1) ∙ with_segment fs (some x) (some (some b.0)) (omega arith) (omega arith) is (last_field (some b.0) b.1),
+        (is.small, ap is_some (field_from trit (field fs 4) b.0 b.1)),
+      )
     where
       is_reset : (f : Bytes) (bs : List Trit) → bits_field trit f ≡ some bs → reset_in f ≡ some bs
       is_reset [] bs q = absurd (none_some bs q)

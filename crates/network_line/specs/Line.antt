@@ -1,19 +1,16 @@
 -- What a parsed line means.
 -- Assumes nothing.
-use Rattle.std.specs.Prelude.{◌≡◌, Bool, true, false, cond, List, [], ◌∷◌, ℕ, ◌-◌, ◌≤◌, length, take, drop, get_or}
-use Rattle.std.proofs.Math.Option.{Option, none, some}
+use Rattle.std.specs.Prelude.{◌≡◌, true, cond, List, [], ◌∷◌, ℕ, ◌≤◌, length, take, get_or, eqb}
+use Rattle.std.specs.Prelude.{Option, None as none, Some as some, option_map, unwrap_or, IfSome}
 use Rattle.model.specs.Text.{Bytes, bind, decimal, bit, trit, bits_from}
 use Rattle.model.specs.Network.{Node, segment, multiplexer, read, write}
-use Rattle.model.specs.NetworkText.{Reset, Line, node, out, hold, target, field, kind, decimals, line_of, is_some}
+use Rattle.model.specs.NetworkText.{Reset, Line, node, out, hold, target, field, kind, line_of, is_some}
 use Rattle.text.specs.Places.{IsSplit}
 use Rattle.network_line.specs.declared.NodeData.{NodeData}
 use Rattle.network_line.specs.declared.NodeData.TheVariants.{Segment, Multiplexer}
 use Rattle.network_line.specs.declared.Entry.{Entry}
-use Rattle.network_line.specs.declared.Entry.TheVariants.{Wrong, Node as NodeEntry, Out, Hold, Write, Read}
+use Rattle.network_line.specs.declared.Entry.TheVariants.{Node as NodeEntry, Out, Hold, Write, Read}
 use Rattle.network_line.specs.declared.ParsedLine.{ParsedLine}
-use Rattle.network_line.specs.declared.Kind.{Kind}
-use Rattle.network_line.specs.declared.Kind.TheVariants.{Shadow, Plain, Unknown}
-use Rattle.network_line.specs.declared.Decimals.{Decimals}
 
 -- ---- the parts of a line
 
@@ -21,37 +18,15 @@ use Rattle.network_line.specs.declared.Decimals.{Decimals}
 abbrev pub FieldsPlaced : Bytes → List ℕ → ℕ → Type 0
 FieldsPlaced line starts count = IsSplit line record { count = count; starts = starts }
 
-abbrev pub kind_for : Kind → Option Bool
-kind_for Shadow = some true
-kind_for Plain = some false
-kind_for Unknown = none
-
--- the numbers of all fields but the first
-pub record AreDecimals (fs : List Bytes) (r : Decimals) : Type 0 where
-  pub long : length r.values ≡ 6
-  pub given : cond r.good (some (take (length fs - 1) r.values)) none ≡ decimals (drop 1 fs)
-  pub small : (k : ℕ) → get_or r.values k 0 ≤ 9999
-
 -- ---- what a line says
-
-abbrev pub inputs_of : ℕ → ℕ → ℕ → ℕ → ℕ → List ℕ
-inputs_of n i0 i1 i2 i3 = take n (i0 ∷ i1 ∷ i2 ∷ i3 ∷ [])
 
 abbrev pub node_for : NodeData → Node
 node_for (Segment from len shadow) = segment from len shadow
-node_for (Multiplexer s b n i0 i1 i2 i3) = multiplexer s b (inputs_of n i0 i1 i2 i3)
-
--- the bytes at a place of a line
-abbrev pub bytes_at : Bytes → ℕ → ℕ → Bytes
-bytes_at l start end = take (end - start) (drop start l)
-
-abbrev pub value_or : {A : Type 0} → A → Option A → A
-value_or other none = other
-value_or other (some a) = a
+node_for (Multiplexer s b n inputs) = multiplexer s b (take n inputs)
 
 -- the bits of a BITS or RESET field of good form
 abbrev pub bits_in : {A : Type 0} → (ℕ → Option A) → Bytes → List A
-bits_in one f = value_or [] (bits_from one [] f)
+bits_in one f = unwrap_or (bits_from one [] f) []
 
 -- the RESET of these bytes; no bytes stand for no field
 abbrev pub reset_in : Bytes → Reset
@@ -59,51 +34,64 @@ reset_in [] = none
 reset_in (b ∷ bs) = some (bits_in trit (b ∷ bs))
 
 -- what an entry says, with the bytes of its BITS or RESET field
-abbrev pub entry_means : Bytes → Entry → Option Line
-entry_means f Wrong = none
-entry_means f (NodeEntry x) = some (node (node_for x) (reset_in f))
-entry_means f (Out k) = some (out k)
-entry_means f (Hold s) = some (hold s (bits_in trit f))
-entry_means f (Write s) = some (target (write s (bits_in bit f)))
-entry_means f (Read s) = some (target (read s))
+abbrev pub entry_means : Bytes → Entry → Line
+entry_means f (NodeEntry x) = node (node_for x) (reset_in f)
+entry_means f (Out k) = out k
+entry_means f (Hold s) = hold s (bits_in trit f)
+entry_means f (Write s) = target (write s (bits_in bit f))
+entry_means f (Read s) = target (read s)
 
 -- numbers of at most four digits; 2 to 4 inputs
 abbrev pub SmallNode : NodeData → Type 0
 SmallNode (Segment from len shadow) = (from ≤ 9999) × (len ≤ 9999)
-SmallNode (Multiplexer s b n i0 i1 i2 i3) = (s ≤ 9999) × (b ≤ 9999) × (2 ≤ n) × (n ≤ 4) × (i0 ≤ 9999) × (i1 ≤ 9999) × (i2 ≤ 9999) × (i3 ≤ 9999)
+SmallNode (Multiplexer s b n inputs) = (s ≤ 9999) × (b ≤ 9999) × (2 ≤ n) × (n ≤ 4) × (length inputs ≡ 4) × ((k : ℕ) → get_or inputs k 0 ≤ 9999)
 
 -- what the form of the line gives besides
 abbrev pub GoodEntry : Bytes → Entry → Type 0
-GoodEntry f Wrong = Unit {0}
 GoodEntry f (NodeEntry x) = SmallNode x × (is_some (bits_from trit [] f) ≡ true)
 GoodEntry f (Out k) = k ≤ 9999
 GoodEntry f (Hold s) = (s ≤ 9999) × (is_some (bits_from trit [] f) ≡ true)
 GoodEntry f (Write s) = (s ≤ 9999) × (is_some (bits_from bit [] f) ≡ true)
 GoodEntry f (Read s) = s ≤ 9999
 
--- an entry that says o, with the bytes of its BITS or RESET field
-pub record IsEntry (f : Bytes) (o : Option Line) (e : Entry) : Type 0 where
-  pub means : entry_means f e ≡ o
-  pub good : GoodEntry f e
+-- an entry without BITS and RESET that says o, or none
+pub record IsEntry (o : Option Line) (r : Option Entry) : Type 0 where
+  pub means : option_map (entry_means []) r ≡ o
+  pub good : IfSome r (GoodEntry [])
 
--- the segment of FROM, LEN and KIND, with this RESET
-abbrev pub segment_with : List Bytes → Reset → Option Line
-segment_with fs v = bind (decimal (field fs 1)) (λ from. bind (decimal (field fs 2)) (λ len. bind (kind (field fs 3)) (λ shadow. some (node (segment from len shadow) v))))
+-- a number of at most four digits
+pub record IsSmallNumber (o r : Option ℕ) : Type 0 where
+  pub value : r ≡ o
+  pub small : IfSome r (λ n. n ≤ 9999)
 
--- an entry that says it, whatever the RESET is
-abbrev pub SaysSegment : List Bytes → Entry → Type 0
-SaysSegment fs e = (f : Bytes) → is_some (bits_from trit [] f) ≡ true → IsEntry f (segment_with fs (reset_in f)) e
+-- the number of a line of two fields
+abbrev pub number_of : List Bytes → Option ℕ
+number_of fs = cond (eqb (length fs) 2) (decimal (field fs 1)) none
+
+-- the segment of FROM, LEN and KIND
+abbrev pub segment_by : List Bytes → Option Node
+segment_by fs = bind (decimal (field fs 1)) (λ from. bind (decimal (field fs 2)) (λ len. bind (kind (field fs 3)) (λ shadow. some (segment from len shadow))))
+
+pub record IsSegment (fs : List Bytes) (r : Option NodeData) : Type 0 where
+  pub means : option_map node_for r ≡ segment_by fs
+  pub small : IfSome r SmallNode
+
+-- what a parsed line says
+abbrev pub line_means : ParsedLine → Line
+line_means p = entry_means p.bits.now p.entry
+
+abbrev pub GoodLine : ParsedLine → Type 0
+GoodLine p = GoodEntry p.bits.now p.entry
 
 -- a parsed line without BITS and RESET
-abbrev pub plain_line : Entry → ParsedLine
-plain_line e = record { entry = e; start = 0; end = 0 }
+pub record IsPlain (e : Entry) (p : ParsedLine) : Type 0 where
+  pub says : p.entry ≡ e
+  pub empty : p.bits.now ≡ []
 
--- a parsed line that says o
-pub record IsParsed (l : Bytes) (o : Option Line) (r : ParsedLine) : Type 0 where
-  pub ordered : r.start ≤ r.end
-  pub within : r.end ≤ length l
-  pub means : entry_means (bytes_at l r.start r.end) r.entry ≡ o
-  pub good : GoodEntry (bytes_at l r.start r.end) r.entry
+-- a parsed line that says o, or none
+pub record IsParsed (o : Option Line) (r : Option ParsedLine) : Type 0 where
+  pub means : option_map line_means r ≡ o
+  pub good : IfSome r GoodLine
 
-abbrev pub IsParsedLine : Bytes → ParsedLine → Type 0
-IsParsedLine l r = IsParsed l (line_of l) r
+abbrev pub IsParsedLine : Bytes → Option ParsedLine → Type 0
+IsParsedLine l r = IsParsed (line_of l) r

@@ -3,16 +3,16 @@
 
 pub mod node;
 
-ghost use Rattle.std.specs.Prelude.{cond, [], ◌≡◌, ◌≤◌, ◌<◌, length};
+ghost use Rattle.std.specs.Prelude.{cond, ◌≡◌, ◌≤◌, ◌<◌, length, option_map};
 ghost use Rattle.model.specs.Text.{fields, Seg, Mux, Out, Hold, Write, Read};
 ghost use Rattle.model.specs.NetworkText.{field, kind, line_by};
 ghost use Rattle.text.specs.Numbers.{IsDecimal};
 ghost use Rattle.text.specs.Places.{FieldStarts};
-ghost use Rattle.network_line.specs.Line.{kind_for, FieldsPlaced, AreDecimals, IsEntry, SaysSegment, plain_line, IsParsed, IsParsedLine};
+ghost use Rattle.network_line.specs.Line.{FieldsPlaced, IsSegment, IsEntry, number_of, IsSmallNumber, IsPlain, IsParsed, IsParsedLine};
 
-use text::{LineWord, Number};
+use text::LineWord;
 
-// A node is a segment or a multiplexer, and each kind has its own fields. An input that a multiplexer lacks is 0.
+// A node is a segment or a multiplexer, and each kind has its own fields. A multiplexer has the first `count` of the inputs.
 #[derive(Clone, Copy)]
 pub enum NodeData {
     Segment {
@@ -24,17 +24,13 @@ pub enum NodeData {
         seg: usize,
         bit: usize,
         count: usize,
-        a: usize,
-        b: usize,
-        c: usize,
-        d: usize,
+        inputs: [usize; 4],
     },
 }
 
-// What a line says: a wrong form, a node, the node that feeds scan-out, start bits, a write target, a read target.
-#[derive(Drop)]
+// What a line says: a node, the node that feeds scan-out, start bits, a write target, a read target.
+#[derive(Clone, Copy)]
 pub enum Entry {
-    Wrong,
     Node(NodeData),
     Out(usize),
     Hold(usize),
@@ -42,214 +38,143 @@ pub enum Entry {
     Read(usize),
 }
 
-// A parsed line: what it says, and the place of its BITS or RESET field where it has one.
-#[derive(Drop)]
-pub struct ParsedLine {
+// A parsed line: what it says, and its BITS or RESET field, empty where it has none.
+#[derive(Clone, Copy)]
+pub struct ParsedLine<'a> {
     pub entry: Entry,
-    pub start: usize,
-    pub end: usize,
+    pub bits: &'a [u8],
 }
 
-// KIND of a segment: with shadow register, plain, or neither letter.
-#[derive(Drop)]
-enum Kind {
-    Shadow,
-    Plain,
-    Unknown,
-}
-
-// The numbers of up to six decimal fields, 0 behind them, and whether all these fields have good form.
-#[derive(Drop)]
-struct Decimals {
-    good: bool,
-    values: [usize; 6],
-}
-
-// KIND is `s` or `p`.
-fn kind_of(f: &[u8]) -> Kind
-    ensures { kind_for result ≡ kind f.now }
+// Whether a segment has a shadow register, by its KIND: `s` or `p`.
+#[tactic(auto, using(text::proofs::Words::same_by_bytes))]
+fn shadow_of(f: &[u8]) -> Option<bool>
+    ensures { result ≡ kind f.now }
 {
-    if text::equal(f, b"s") {
-        return Kind::Shadow;
+    match f {
+        b"s" => Some(true),
+        b"p" => Some(false),
+        _ => None,
     }
-    if text::equal(f, b"p") {
-        return Kind::Plain;
-    }
-    Kind::Unknown
 }
 
 // The number of field k.
-fn number(line: &[u8], starts: &[usize; 8], k: usize) -> Number
+fn number(line: &[u8], starts: &[usize; 8], k: usize) -> Option<usize>
     requires { (k < 7) × (k < length (fields line.now)) × FieldStarts line.now starts.now }
     ensures { IsDecimal (field (fields line.now) k) result }
 {
     text::decimal_of(text::field(line, starts, k))
 }
 
-// The numbers of all fields but the first, of at most seven.
-fn decimals_of(line: &[u8], starts: &[usize; 8], count: usize) -> Decimals
-    requires { (1 ≤ count) × (count ≤ 7) × FieldsPlaced line.now starts.now count }
-    ensures { AreDecimals (fields line.now) result }
-{
-    let mut values = [0usize; 6];
-    let mut k: usize = 0;
-    while k + 1 < count {
-        let n = number(line, starts, k + 1);
-        let Number::Value(v) = n else {
-            return Decimals {
-                good: false,
-                values,
-            };
-        };
-        values[k] = v;
-        k += 1;
-    }
-    Decimals { good: true, values }
-}
-
 // FROM, LEN and KIND of a `seg` line.
-fn segment_of(line: &[u8], starts: &[usize; 8]) -> Entry
+fn segment_of(line: &[u8], starts: &[usize; 8]) -> Option<NodeData>
     requires { (4 ≤ length (fields line.now)) × FieldStarts line.now starts.now }
-    ensures { SaysSegment (fields line.now) result }
+    ensures { IsSegment (fields line.now) result }
 {
-    let a = number(line, starts, 1);
-    let Number::Value(from) = a else {
-        return Entry::Wrong;
-    };
-    let b = number(line, starts, 2);
-    let Number::Value(len) = b else {
-        return Entry::Wrong;
-    };
-    let k = kind_of(text::field(line, starts, 3));
-    match k {
-        Kind::Shadow => Entry::Node(NodeData::Segment {
-            from,
-            len,
-            shadow: true,
-        }),
-        Kind::Plain => Entry::Node(NodeData::Segment {
-            from,
-            len,
-            shadow: false,
-        }),
-        Kind::Unknown => Entry::Wrong,
-    }
-}
-
-// `seg FROM LEN KIND [RESET]`.
-fn seg_line(line: &[u8], starts: &[usize; 8], count: usize) -> ParsedLine
-    requires { FieldsPlaced line.now starts.now count }
-    ensures { IsParsed line.now (line_by (fields line.now) Seg) result }
-{
-    if count == 4 {
-        return plain(segment_of(line, starts));
-    }
-    if count != 5 {
-        return plain(Entry::Wrong);
-    }
-    let start = starts[4];
-    let end = starts[5] - 1;
-    if !text::are_bits(&line[start..end], true) {
-        return plain(Entry::Wrong);
-    }
-    let entry = segment_of(line, starts);
-    ParsedLine { entry, start, end }
-}
-
-// `mux SEG BIT A B [C [D]]`.
-fn mux_line(line: &[u8], starts: &[usize; 8], count: usize) -> Entry
-    requires { FieldsPlaced line.now starts.now count }
-    ensures { IsEntry [] (line_by (fields line.now) Mux) result }
-{
-    if count < 5 {
-        return Entry::Wrong;
-    }
-    if 7 < count {
-        return Entry::Wrong;
-    }
-    let n = decimals_of(line, starts, count);
-    if !n.good {
-        return Entry::Wrong;
-    }
-    Entry::Node(NodeData::Multiplexer {
-        seg: n.values[0],
-        bit: n.values[1],
-        count: count - 3,
-        a: n.values[2],
-        b: n.values[3],
-        c: n.values[4],
-        d: n.values[5],
+    Some(NodeData::Segment {
+        from: number(line, starts, 1)?,
+        len: number(line, starts, 2)?,
+        shadow: shadow_of(text::field(line, starts, 3))?,
     })
 }
 
-// `read SEG` where a target is meant, else `out N`.
-fn number_line(line: &[u8], starts: &[usize; 8], count: usize, target: bool) -> Entry
+// `seg FROM LEN KIND [RESET]`.
+fn seg_line<'a, 'b>(line: &'a [u8], starts: &'b [usize; 8], count: usize) -> Option<ParsedLine<'a>>
     requires { FieldsPlaced line.now starts.now count }
-    ensures { IsEntry [] (line_by (fields line.now) (cond target Read Out)) result }
+    ensures { IsParsed (line_by (fields line.now) Seg) result }
+{
+    if count < 4 || 5 < count {
+        return None;
+    }
+    let entry = Entry::Node(segment_of(line, starts)?);
+    if count == 4 {
+        return Some(plain(entry));
+    }
+    let bits = text::field(line, starts, 4);
+    if !text::are_bits(bits, true) {
+        return None;
+    }
+    Some(ParsedLine { entry, bits })
+}
+
+// `mux SEG BIT A B [C [D]]`.
+fn mux_line(line: &[u8], starts: &[usize; 8], count: usize) -> Option<Entry>
+    requires { FieldsPlaced line.now starts.now count }
+    ensures { IsEntry (line_by (fields line.now) Mux) result }
+{
+    if count < 5 || 7 < count {
+        return None;
+    }
+    let seg = number(line, starts, 1)?;
+    let bit = number(line, starts, 2)?;
+    let count = count - 3;
+    let mut inputs = [0; 4];
+    for k in 0..count {
+        inputs[k] = number(line, starts, k + 3)?;
+    }
+    Some(Entry::Node(NodeData::Multiplexer {
+        seg,
+        bit,
+        count,
+        inputs,
+    }))
+}
+
+// The number of `out N` or `read SEG`.
+fn number_line(line: &[u8], starts: &[usize; 8], count: usize) -> Option<usize>
+    requires { FieldsPlaced line.now starts.now count }
+    ensures { IsSmallNumber (number_of (fields line.now)) result }
 {
     if count != 2 {
-        return Entry::Wrong;
+        return None;
     }
-    let a = number(line, starts, 1);
-    let Number::Value(n) = a else {
-        return Entry::Wrong;
-    };
-    if target {
-        return Entry::Read(n);
-    }
-    Entry::Out(n)
+    number(line, starts, 1)
 }
 
 // A parsed line without BITS and RESET.
-fn plain(entry: Entry) -> ParsedLine
-    ensures { result ≡ plain_line entry }
+fn plain<'a>(entry: Entry) -> ParsedLine<'a>
+    ensures { IsPlain entry result }
 {
-    ParsedLine {
-        entry,
-        start: 0,
-        end: 0,
-    }
+    ParsedLine { entry, bits: &[] }
 }
 
 // `hold SEG BITS` where unknown bits are allowed, else `write SEG BITS`.
-fn bits_line(line: &[u8], starts: &[usize; 8], count: usize, unknown: bool) -> ParsedLine
+fn bits_line<'a, 'b>(
+    line: &'a [u8],
+    starts: &'b [usize; 8],
+    count: usize,
+    unknown: bool,
+) -> Option<ParsedLine<'a>>
     requires { FieldsPlaced line.now starts.now count }
-    ensures { IsParsed line.now (line_by (fields line.now) (cond unknown Hold Write)) result }
+    ensures { IsParsed (line_by (fields line.now) (cond unknown Hold Write)) result }
 {
     if count != 3 {
-        return plain(Entry::Wrong);
+        return None;
     }
-    let a = number(line, starts, 1);
-    let Number::Value(s) = a else {
-        return plain(Entry::Wrong);
+    let s = number(line, starts, 1)?;
+    let bits = text::field(line, starts, 2);
+    if !text::are_bits(bits, unknown) {
+        return None;
+    }
+    let entry = if unknown {
+        Entry::Hold(s)
+    } else {
+        Entry::Write(s)
     };
-    let start = starts[2];
-    let end = starts[3] - 1;
-    if !text::are_bits(&line[start..end], unknown) {
-        return plain(Entry::Wrong);
-    }
-    if unknown {
-        let entry = Entry::Hold(s);
-        return ParsedLine { entry, start, end };
-    }
-    let entry = Entry::Write(s);
-    ParsedLine { entry, start, end }
+    Some(ParsedLine { entry, bits })
 }
 
 // What a line says. `csu` stands in plans only.
-pub fn parse(line: &[u8]) -> ParsedLine
+pub fn parse<'a>(line: &'a [u8]) -> Option<ParsedLine<'a>>
     ensures { IsParsedLine line.now result }
 {
     let f = text::split(line);
-    let w = text::word_of(text::field(line, &f.starts, 0));
-    match w {
+    match text::word_of(text::field(line, &f.starts, 0))? {
         LineWord::Seg => seg_line(line, &f.starts, f.count),
-        LineWord::Mux => plain(mux_line(line, &f.starts, f.count)),
-        LineWord::Out => plain(number_line(line, &f.starts, f.count, false)),
+        LineWord::Mux => Some(plain(mux_line(line, &f.starts, f.count)?)),
+        LineWord::Out => Some(plain(Entry::Out(number_line(line, &f.starts, f.count)?))),
         LineWord::Hold => bits_line(line, &f.starts, f.count, true),
         LineWord::Write => bits_line(line, &f.starts, f.count, false),
-        LineWord::Read => plain(number_line(line, &f.starts, f.count, true)),
-        LineWord::Csu => plain(Entry::Wrong),
-        LineWord::Unknown => plain(Entry::Wrong),
+        LineWord::Read => Some(plain(Entry::Read(number_line(line, &f.starts, f.count)?))),
+        LineWord::Csu => None,
     }
 }

@@ -6,7 +6,7 @@ use mathlib.Core.List.{List, [], ◌∷◌, ◌++◌, Memᴰ}
 use Prim.Native.Nat.{ℕ, zero, suc, ◌+◌, ◌≤◌, ◌<◌}
 use native.Mathlib.Omega.{arith}
 use native.Mathlib.Nat.{zero-add}
-use lib.ListN.{length, get_or, take, set, length-set}
+use lib.ListN.{length, get_or, set, length-set, length-take}
 use lib.Dec.{eqb}
 use borrow.Author.Tests.{eqb-true, eqb-false, ne_eqb, not-false, le-leb, lt-leb, lt-ltb, le-ltb}
 use Rattle.model.specs.Limits.{max_len}
@@ -23,7 +23,6 @@ use Rattle.network_path.specs.Layout.{field_at, node_at, nodes_of}
 use Rattle.network_line.specs.declared.NodeData.{NodeData}
 use Rattle.network_line.specs.declared.NodeData.TheVariants.{Segment, Multiplexer}
 use Rattle.network_line.specs.Line.{node_for, SmallNode, bits_in, reset_in}
-use Rattle.network_line.proofs.Bounds.{by_count}
 use Rattle.network_draft.specs.declared.store.Summary.{Summary}
 use Rattle.network_draft.specs.Store.{NumbersStored, unfit_reset, by_hold, by_reset, reset_flag, Marked}
 use Rattle.network_draft.specs.Numbers.{numbers_for, NodesStored}
@@ -78,9 +77,7 @@ short_reset n x (suc k) o e = let q = eqb-true (suc k) (len_of x) (not-false _ (
 -- a node of small fields has good form
 pub good_form : (x : NodeData) → SmallNode x → GoodForm (node_for x)
 good_form (Segment from len shadow) s = tt
-good_form (Multiplexer q b n i0 i1 i2 i3) s =
-    by_count (λ k. (2 ≤ length (take k (i0 ∷ i1 ∷ i2 ∷ i3 ∷ []))) × (length (take k (i0 ∷ i1 ∷ i2 ∷ i3 ∷ [])) ≤ 4)) n s.2 s.3
-    (omega arith, omega arith) (omega arith, omega arith) (omega arith, omega arith)
+good_form (Multiplexer q b n inputs) s = simp length-take (omega arith)
 
 -- ---- the draft before `out` has no holds and no targets
 
@@ -144,16 +141,7 @@ module _ {a : Arrays} {t : Summary} {d : Draft} {n : ℕ} (w : Represents a t d 
     (ns' steering' : List ℕ) (stored : NumbersStored a.nodes (t.count + 1) (numbers_for x) ns') (marked : Marked a.steering x steering')
     (no : has_out d ≡ false) (inside : outside max_len n x ≡ false) (fits : unfit_reset (length f) (len_of x) ≡ false) (few : t.count < 128) (short : total_bits d.nodes + len_of x ≤ 4000) where
   abbrev t' : Summary
-  t' = record {
-    count = t.count + 1;
-    total = t.total + len_of x;
-    has_out = t.has_out;
-    out = t.out;
-    target_count = t.target_count;
-    target_segment = t.target_segment;
-    target_write = t.target_write;
-    target_bits = t.target_bits;
-  }
+  t' = record t { count = t.count + 1; total = t.total + len_of x }
 
   its : Bare d
   its = bare d n w.sound no
@@ -222,9 +210,7 @@ module _ {a : Arrays} {t : Summary} {d : Draft} {n : ℕ} (w : Represents a t d 
       nodes_fit = omega arith;
       bits_fit = omega (arith, w.total_is);
       targets_fit = w.in_limits.targets_fit;
-      segments = w.in_limits.segments;
-      words = w.in_limits.words;
-      bits = w.in_limits.bits;
+      targets_room = w.in_limits.targets_room;
     };
     nodes_are = nodes';
     numbers_are = numbers';

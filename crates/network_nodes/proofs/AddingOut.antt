@@ -2,15 +2,15 @@
 -- Assumes nothing.
 use mathlib.Core.Path.{◌≡◌, refl, sym, ap, ◌∙◌}
 use mathlib.Core.Bool.{true, false}
-use mathlib.Core.Option.{Option}
-use Prim.Native.Nat.{ℕ, zero, suc, ◌≤◌, ◌<◌}
+use Rattle.std.specs.Prelude.{Option, None as none, Some as some}
+use Prim.Native.Nat.{ℕ, suc, ◌≤◌, ◌<◌}
 use lib.ListN.{length}
 use borrow.Author.Tests.{lt-ltb, le-ltb}
 use Rattle.model.specs.Result.{ok, refused}
 use Rattle.model.specs.NetworkText.{Draft, has_out, first_bad, add_out, with_out, out_if}
 use Rattle.model.proofs.Reading.{sound_out}
 use Rattle.network_draft.specs.declared.store.Summary.{Summary}
-use Rattle.network_draft.specs.Represents.{Arrays, Represents, if_nonzero}
+use Rattle.network_draft.specs.Represents.{Arrays, Represents}
 
 module _ (d : Draft) (n k : ℕ) where
   pub out_4 : has_out d ≡ true → add_out d n k ≡ refused 4 n
@@ -22,41 +22,26 @@ module _ (d : Draft) (n k : ℕ) where
     unfolding add_out
     out_2 h = rw (e, lt-ltb (length d.nodes) k h)
 
-    by_first : k ≤ length d.nodes → (o : Option ℕ) → first_bad d.nodes 1 d.nodes ≡ o → add_out d n k ≡ out_if d k o
+    by_first : k ≤ length d.nodes → (o : Option ℕ) → o ≡ first_bad d.nodes 1 d.nodes → add_out d n k ≡ out_if d k o
     unfolding add_out
-    by_first h o f = rw (e, le-ltb (length d.nodes) k h, f)
+    by_first h o f = rw (e, le-ltb (length d.nodes) k h, ← f)
 
-    module _ (h : k ≤ length d.nodes) (m : ℕ) (f : if_nonzero m ≡ first_bad d.nodes 1 d.nodes) where
-      pub out_5 : (m ≡ 0 → ⊥) → add_out d n k ≡ refused 5 m
-      out_5 ne = go m refl (by_first h (if_nonzero m) (sym f))
-        where
-          go : (j : ℕ) → j ≡ m → add_out d n k ≡ out_if d k (if_nonzero m) → add_out d n k ≡ refused 5 m
-          go zero z q = absurd (ne (sym z))
-          go (suc j) z q = q ∙ ap (λ (x : ℕ). out_if d k (if_nonzero x)) (sym z) ∙ ap (refused 5) z
+    module _ (h : k ≤ length d.nodes) where
+      pub out_5 : (m : ℕ) → some m ≡ first_bad d.nodes 1 d.nodes → add_out d n k ≡ refused 5 m
+      out_5 m f = by_first h (some m) f
 
-      pub out_added : m ≡ 0 → add_out d n k ≡ ok (with_out d k)
-      out_added z = by_first h (if_nonzero m) (sym f) ∙ ap (λ (x : ℕ). out_if d k (if_nonzero x)) z
+      pub out_added : none ≡ first_bad d.nodes 1 d.nodes → add_out d n k ≡ ok (with_out d k)
+      out_added f = by_first h none f
 
 module _ {a : Arrays} {t : Summary} {d : Draft} {n : ℕ} (w : Represents a t d n) (k : ℕ) (is : add_out d n k ≡ ok (with_out d k)) where
-  pub fed : Represents a record {
-    count = t.count;
-    total = t.total;
-    has_out = true;
-    out = k;
-    target_count = t.target_count;
-    target_segment = t.target_segment;
-    target_write = t.target_write;
-    target_bits = t.target_bits;
-  } (with_out d k) (suc n)
+  pub fed : Represents a record t { has_out = true; out = k } (with_out d k) (suc n)
   fed = record {
     sized = w.sized;
     in_limits = record {
       nodes_fit = w.in_limits.nodes_fit;
       bits_fit = w.in_limits.bits_fit;
       targets_fit = w.in_limits.targets_fit;
-      segments = w.in_limits.segments;
-      words = w.in_limits.words;
-      bits = w.in_limits.bits;
+      targets_room = w.in_limits.targets_room;
     };
     nodes_are = w.nodes_are;
     numbers_are = w.numbers_are;

@@ -2,7 +2,7 @@
 -- Assumes nothing.
 use mathlib.Core.Path.{◌≡◌, refl, sym, ap, ◌∙◌}
 use mathlib.Core.Bool.{Bool, true, false, cond, not}
-use mathlib.Core.Option.{Option, none, some}
+use Rattle.std.specs.Prelude.{Option, None as none, Some as some}
 use mathlib.Core.List.{List, ◌∷◌}
 use Prim.Native.Nat.{ℕ, zero, suc, ◌+◌, ◌-◌, ◌≤◌, ◌<◌}
 use native.Mathlib.Omega.{arith}
@@ -16,7 +16,6 @@ use Rattle.model.specs.NetworkText.{bad_address, first_bad}
 use Rattle.model.proofs.Lists.{length_tabulate}
 use Rattle.network_path.specs.Layout.{field_at, inputs_at, node_at, nodes_of}
 use Rattle.network_path.proofs.NodeLaws.{segment_at_law, mux_at, node_in, node_zero, node_beyond}
-use Rattle.network_draft.specs.Represents.{if_nonzero}
 
 no_shadow : (ns : List ℕ) (k : ℕ) → (field_at ns k 0 ≡ 1 → ⊥) → has_shadow (node_at ns k) ≡ false
 no_shadow ns k ne = go (dec_lt (field_at ns k 0) 2)
@@ -100,13 +99,9 @@ module _ (ns : List ℕ) (count k : ℕ) where
   unfolding bad_from
   bad_start e = let f : count + 1 - 1 ≡ count = omega arith in rw (e, f)
 
-  pub bad_hit : 1 ≤ k → k ≤ count → bad_address (nodes_of ns count) (node_at ns k) ≡ true → if_nonzero k ≡ bad_from ns count k
+  pub bad_hit : k ≤ count → bad_address (nodes_of ns count) (node_at ns k) ≡ true → some k ≡ bad_from ns count k
   unfolding bad_from first_bad
-  bad_hit lo h e = positive k lo ∙ sym (ap (first_bad (nodes_of ns count) k) (split h) ∙ rw e)
-    where
-      positive : (j : ℕ) → 1 ≤ j → if_nonzero j ≡ some j
-      positive zero l = absurd (omega arith)
-      positive (suc j) l = refl
+  bad_hit h e = sym (ap (first_bad (nodes_of ns count) k) (split h) ∙ rw e)
 
   pub bad_miss : k ≤ count → bad_address (nodes_of ns count) (node_at ns k) ≡ false → bad_from ns count (k + 1) ≡ bad_from ns count k
   unfolding bad_from first_bad

@@ -3,7 +3,7 @@ ghost use Rattle.std.specs.Prelude.{◌≡◌, ◌≤◌};
 ghost use Rattle.model.specs.Limits.{max_nodes};
 ghost use Rattle.model.specs.NetworkText.{bad_address, first_bad};
 ghost use Rattle.network_path.specs.Layout.{node_at, nodes_of};
-ghost use Rattle.network_draft.specs.Represents.{Formed, if_nonzero};
+ghost use Rattle.network_draft.specs.Represents.{Formed};
 
 use network_path::layout::{BIT, KIND, LEN, Nodes, SEG, field};
 
@@ -37,17 +37,15 @@ fn is_bad(nodes: &Nodes, count: usize, k: usize) -> bool
     len - 1 <= bit
 }
 
-// The number of the first such multiplexer, or 0.
-pub fn first_bad(nodes: &Nodes, count: usize) -> usize
+// The number of the first such multiplexer.
+pub fn first_bad(nodes: &Nodes, count: usize) -> Option<usize>
     requires { (count ≤ max_nodes) × Formed nodes.now count }
-    ensures { if_nonzero result ≡ first_bad (nodes_of nodes.now count) 1 (nodes_of nodes.now count) }
+    ensures { result ≡ first_bad (nodes_of nodes.now count) 1 (nodes_of nodes.now count) }
 {
-    let mut k: usize = 1;
-    while k <= count {
+    for k in 1..=count {
         if is_bad(nodes, count, k) {
-            return k;
+            return Some(k);
         }
-        k += 1;
     }
-    0
+    None
 }

@@ -11,8 +11,7 @@ ghost use Rattle.network_nodes.specs.Added.{NodeAdded, OutAdded};
 
 use crate::bad::first_bad;
 use model::limits::{MAX_BITS, MAX_NODES};
-use model::refusal;
-use network_draft::add::{Added, Refusal, refuse};
+use model::refusal::{Kind, Refusal};
 use network_draft::store::{
     Summary, mark_steering, numbers_of, reset_flag, store_numbers, store_start,
 };
@@ -24,10 +23,7 @@ use network_path::layout::{NODE_NUMBERS, Nodes, Words};
 fn is_unfit(reset: usize, len: usize) -> bool
     ensures { result ≡ unfit_reset reset len }
 {
-    if reset == 0 {
-        return false;
-    }
-    reset != len
+    reset != 0 && reset != len
 }
 
 // A node line with its RESET field, which is empty where it has none: 4, 2, 18, 3.
@@ -41,62 +37,51 @@ pub fn add_node(
     n: usize,
     x: NodeData,
     reset: &[u8],
-) -> Added
+) -> Result<Summary, Refusal>
     requires { (SmallNode x) × (InLimits t) × Sized (arrays nodes.old bits.old known.old steering.old held.old) }
     ensures { NodeAdded (arrays nodes.old bits.old known.old steering.old held.old) t n x reset.now result (arrays nodes.new bits.new known.new steering.new held.new) }
 {
     if t.has_out {
-        return refuse(t, refusal::ORDER, n);
+        return Err(Kind::Order.at(n));
     }
     if is_outside(n, x) {
-        return refuse(t, refusal::BOUNDS, n);
+        return Err(Kind::Bounds.at(n));
     }
     let len = bits_of(x);
     if is_unfit(reset.len(), len) {
-        return refuse(t, refusal::RESET_LENGTH, n);
+        return Err(Kind::ResetLength.at(n));
     }
-    let count = t.count;
-    if MAX_NODES <= count {
-        return refuse(t, refusal::SIZE, n);
+    if MAX_NODES <= t.count {
+        return Err(Kind::Size.at(n));
     }
-    let total = t.total;
-    if MAX_BITS - total < len {
-        return refuse(t, refusal::SIZE, n);
+    if MAX_BITS - t.total < len {
+        return Err(Kind::Size.at(n));
     }
-    let k = count + 1;
-    store_numbers(nodes, k, numbers_of(x));
-    store_start(bits, known, held, k, reset, reset_flag(reset.len()));
+    let count = t.count + 1;
+    store_numbers(nodes, count, numbers_of(x));
+    store_start(bits, known, held, count, reset, reset_flag(reset.len()));
     mark_steering(steering, x);
-    let mut next = t;
-    next.count = k;
-    next.total = total + len;
-    Added {
-        refusal: Refusal::Nothing,
-        summary: next,
-    }
+    let total = t.total + len;
+    Ok(Summary { count, total, ..t })
 }
 
 // An `out` line: 4, 2, 5.
-pub fn add_out(nodes: &Nodes, t: Summary, n: usize, k: usize) -> Added
+pub fn add_out(nodes: &Nodes, t: Summary, n: usize, k: usize) -> Result<Summary, Refusal>
     requires { (InLimits t) × Formed nodes.now t.count }
     ensures { OutAdded nodes.now t n k result }
 {
     if t.has_out {
-        return refuse(t, refusal::ORDER, n);
+        return Err(Kind::Order.at(n));
     }
-    let count = t.count;
-    if count < k {
-        return refuse(t, refusal::BOUNDS, n);
+    if t.count < k {
+        return Err(Kind::Bounds.at(n));
     }
-    let m = first_bad(nodes, count);
-    if m != 0 {
-        return refuse(t, refusal::ADDRESS, m);
+    if let Some(m) = first_bad(nodes, t.count) {
+        return Err(Kind::Address.at(m));
     }
-    let mut next = t;
-    next.has_out = true;
-    next.out = k;
-    Added {
-        refusal: Refusal::Nothing,
-        summary: next,
-    }
+    Ok(Summary {
+        has_out: true,
+        out: k,
+        ..t
+    })
 }

@@ -2,14 +2,15 @@
 -- Assumes nothing.
 use mathlib.Core.Path.{◌≡◌, refl, sym, ap, subst, ◌∙◌}
 use mathlib.Core.Bool.{Bool, true, false, cond}
-use mathlib.Core.Option.{Option, none, some}
+use Rattle.std.specs.Prelude.{Option, None as none, Some as some, option_map}
 use mathlib.Core.List.{List, [], ◌∷◌}
 use Prim.Native.Nat.{ℕ, zero, suc, ◌+◌, ◌<◌, ◌≤◌}
 use native.Mathlib.Nat.{zero-add, not-suc-le-zero, le_of_suc-le-suc}
 use native.Mathlib.Omega.{arith}
 use borrow.Author.Tests.{leb-true, leb-false}
 use lib.Dec.{leb}
-use lib.ListN.{length, get_or, get_elem?, get_or-eq_default}
+use lib.ListN.{length, get_or, get_or-eq_default}
+use Rattle.std.specs.Prelude.{slice_get}
 use Rattle.model.specs.Network.{Node, segment, multiplexer, at, no_node, has_shadow, len_of, address_bits, tabulate}
 use Rattle.model.specs.Path.{Walk, bit_of, value_of, address, pick, walk_from, node_of}
 use Rattle.model.specs.Text.{Trit}
@@ -17,10 +18,9 @@ use Rattle.model.specs.Accepted.{GoodNode, GoodMux}
 use Rattle.model.proofs.Lists.{length_tabulate, get_d_tabulate, true_false}
 use Rattle.network_words.specs.Words.{word_width, trit_at, trits_of}
 use Rattle.network_path.specs.Layout.{node_at, nodes_of, config_of, look_in, SafeNode, Safe}
-use Rattle.network_path.specs.Answers.{step_to, step_of, told, FindsPath}
+use Rattle.network_path.specs.Answers.{step_of, Walked, told, FindsPath}
 use Rattle.network_path.specs.declared.walk.Step.{Step}
-use Rattle.network_path.specs.declared.walk.Step.TheVariants.{Segment, Input, Stop}
-use Rattle.network_path.specs.declared.walk.Walked.{Walked}
+use Rattle.network_path.specs.declared.walk.Step.TheVariants.{Segment, Input}
 use Rattle.network_path.proofs.WalkLaws.{followed, visit_step, Below, step_below}
 
 -- ---- the walk goes by the step and the LEN of each node up to its first
@@ -30,10 +30,10 @@ pub record SameStep (look look' : ℕ → ℕ → Trit) (k : ℕ) (nd nd' : Node
   pub step : step_of look nd ≡ step_of look' nd'
   pub below : Below k (step_of look nd)
 
-followed_cong : (k len : ℕ) (s : Step) (go go' : ℕ → Walk) → Below k s → ((m : ℕ) → m < k → go m ≡ go' m) → followed k len s go ≡ followed k len s go'
-followed_cong k len (Segment m) go go' b e = rw (e m b)
-followed_cong k len (Input m) go go' b e = e m b
-followed_cong k len Stop go go' b e = refl
+followed_cong : (k len : ℕ) (s : Option Step) (go go' : ℕ → Walk) → Below k s → ((m : ℕ) → m < k → go m ≡ go' m) → followed k len s go ≡ followed k len s go'
+followed_cong k len (some (Segment m)) go go' b e = rw (e m b)
+followed_cong k len (some (Input m)) go go' b e = e m b
+followed_cong k len none go go' b e = refl
 
 module _ (node node' : ℕ → Node) (look look' : ℕ → ℕ → Trit) (n : ℕ) (same : (m : ℕ) → 1 ≤ m → m ≤ n → SameStep look look' m (node m) (node' m)) where
   pub walk_cong : (f m : ℕ) → m ≤ n → walk_from node look f m ≡ walk_from node' look' f m
@@ -46,7 +46,7 @@ module _ (node node' : ℕ → Node) (look look' : ℕ → ℕ → Trit) (n : �
       let s = same (suc m) (omega arith) l in
       visit_step look (suc m) (node (suc m)) go
       ∙ followed_cong (suc m) (len_of (node (suc m))) (step_of look (node (suc m))) go go' s.below (λ i b. walk_cong f i (omega arith))
-      ∙ ap (λ (x : Step). followed (suc m) (len_of (node (suc m))) x go') s.step ∙ ap (λ (len : ℕ). followed (suc m) len (step_of look' (node' (suc m))) go') s.as_long
+      ∙ ap (λ (x : Option Step). followed (suc m) (len_of (node (suc m))) x go') s.step ∙ ap (λ (len : ℕ). followed (suc m) len (step_of look' (node' (suc m))) go') s.as_long
       ∙ sym (visit_step look' (suc m) (node' (suc m)) go')
 
 -- ---- looking up a list that is tabulated from number 1 on
@@ -67,7 +67,7 @@ config_bit ns bits known count s b h l m =
 
 -- ---- good nodes are safe, and their addresses are the same in the arrays
 
-get_elem_get_d : (l : List ℕ) (i : ℕ) → i < length l → get_elem? l i ≡ some (get_or l i 0)
+get_elem_get_d : (l : List ℕ) (i : ℕ) → i < length l → slice_get l i ≡ some (get_or l i 0)
 get_elem_get_d [] i h = absurd (not-suc-le-zero h)
 get_elem_get_d (x ∷ l) zero h = refl
 get_elem_get_d (x ∷ l) (suc i) h = get_elem_get_d l i (le_of_suc-le-suc h)
@@ -134,7 +134,7 @@ module _ (ns : List ℕ) (count : ℕ) (most : count ≤ 128)
     same_step k (segment from len sh) g = refl
     same_step k (multiplexer s b ins) g =
         let a = address_at k s b ins g in
-        ap (λ (o : Option ℕ). step_to (pick ins o))
+        ap (λ (o : Option ℕ). option_map Input (pick ins o))
         (address_same (bit_of (config_of ns bits known count)) (look_in bits known) s b (len_of (node_at ns s)) ins a.within
         (λ j l. config_bit ns bits known count s j a.first a.last l))
 

@@ -2,10 +2,9 @@
 -- Assumes nothing.
 use mathlib.Core.Path.{◌≡◌, refl, sym, ap, subst, ◌∙◌}
 use mathlib.Core.Bool.{Bool, true, false, cond, ◌||◌}
-use mathlib.Core.Option.{some}
+use Rattle.std.specs.Prelude.{Some as some}
 use mathlib.Core.List.{List, [], ◌∷◌, map}
 use Prim.Native.Nat.{ℕ, ◌+◌, ◌-◌, ◌<◌, ◌≤◌}
-use native.Mathlib.Nat.{zero-add}
 use native.Mathlib.Omega.{arith}
 use borrow.Author.Tests.{ne_eqb, eqb-false}
 use lib.Dec.{eqb}
@@ -17,7 +16,7 @@ use Rattle.model.specs.Text.{Trit}
 use Rattle.model.proofs.Lists.{eqb_is, take_map, drop_map, tabulate_cong, map_from_tabulate}
 use Rattle.network_words.specs.Words.{word_width, all_known, trits_of, byte_bit, word_of_bits}
 use Rattle.network_path.specs.Layout.{node_at, config_of, segment_at, scan_path, Way}
-use Rattle.network_path.specs.Answers.{ConfigSized, Loadable, Loads}
+use Rattle.network_path.specs.Answers.{ConfigSized, Loads}
 use Rattle.network_path.proofs.PathLaws.{SegmentOn}
 use Rattle.network_words.proofs.WordLaws.{trits_loaded}
 
@@ -37,9 +36,6 @@ pub record Loading (ns way : List ℕ) (n : ℕ) (scan bits₀ known₀ : List �
   pub left : p + path_length (scan_path ns (drop i (take n way))) ≡ length scan
   pub rows : (k : ℕ) → row_after (scan_path ns (drop i (take n way))) (drop p (bits_in scan)) k (row ns bits known k)
       ≡ row_after (scan_path ns (take n way)) (bits_in scan) k (row ns bits₀ known₀ k)
-
-pub loading_none : (ns way : List ℕ) (n : ℕ) (scan bits known : List ℕ) → Loadable ns way n scan bits known → Loading ns way n scan bits known 0 0 bits known
-loading_none ns way n scan bits known h = record { sized = h.sized; left = zero-add (path_length (scan_path ns (take n way))) ∙ sym h.as_long; rows = λ k. refl }
 
 -- ---- one segment more
 

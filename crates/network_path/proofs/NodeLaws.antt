@@ -2,25 +2,26 @@
 -- Assumes nothing.
 use mathlib.Core.Path.{◌≡◌, refl, ap, ◌∙◌, subst}
 use mathlib.Core.Bool.{Bool, true, false, cond}
-use mathlib.Core.Option.{none, some}
+use Rattle.std.specs.Prelude.{None as none, Some as some}
 use mathlib.Core.List.{List, [], ◌∷◌}
 use Prim.Native.Nat.{ℕ, zero, suc, ◌+◌, ◌<◌, ◌≤◌}
 use native.Mathlib.Nat.{suc-add, add-suc, add-zero, not-suc-le-zero, le_of_suc-le-suc}
 use native.Mathlib.Omega.{arith}
 use borrow.Author.Tests.{lt-ltb, le-ltb}
 use lib.Dec.{eqb, leb}
-use lib.ListN.{length, get_elem?, get_or-eq_default}
+use lib.ListN.{length, get_or-eq_default}
+use Rattle.std.specs.Prelude.{slice_get}
 use Rattle.model.specs.Network.{segment, multiplexer, at, no_node, tabulate}
 use Rattle.model.proofs.Lists.{length_tabulate, get_d_tabulate}
 use Rattle.network_words.specs.Words.{word_width}
 use Rattle.network_path.specs.Layout.{field_at, inputs_at, node_at, nodes_of, SafeNode}
 
-pub get_elem_tabulate : {A : Type 0} (f : ℕ → A) (i n x : ℕ) → x < n → get_elem? (tabulate f i n) x ≡ some (f (i + x))
+pub get_elem_tabulate : {A : Type 0} (f : ℕ → A) (i n x : ℕ) → x < n → slice_get (tabulate f i n) x ≡ some (f (i + x))
 get_elem_tabulate f i zero x h = absurd (not-suc-le-zero h)
 get_elem_tabulate f i (suc n) zero h = rw add-zero
 get_elem_tabulate f i (suc n) (suc x) h = rw (add-suc, ← (suc-add i x)) (get_elem_tabulate f (suc i) n x (le_of_suc-le-suc h))
 
-pub get_elem_beyond : {A : Type 0} (l : List A) (x : ℕ) → length l ≤ x → get_elem? l x ≡ none
+pub get_elem_beyond : {A : Type 0} (l : List A) (x : ℕ) → length l ≤ x → slice_get l x ≡ none
 get_elem_beyond [] x h = refl
 get_elem_beyond (a ∷ l) zero h = absurd (not-suc-le-zero h)
 get_elem_beyond (a ∷ l) (suc x) h = get_elem_beyond l x (le_of_suc-le-suc h)

@@ -1,28 +1,26 @@
 -- Laws of a path that the lent memory holds: its length, its segments one after the other, and their places.
 -- Assumes nothing.
 use mathlib.Core.Path.{◌≡◌, refl, sym, ap, subst, ◌∙◌}
-use mathlib.Core.Bool.{Bool, true, false, cond, ◌||◌}
-use mathlib.Core.Option.{Option, none, some}
+use mathlib.Core.Bool.{cond}
+use Rattle.std.specs.Prelude.{Option, None as none, Some as some, Ok, Err}
 use mathlib.Core.List.{List, [], ◌∷◌}
 use Prim.Native.Nat.{ℕ, zero, suc, ◌+◌, ◌*◌, ◌<◌, ◌≤◌}
-use native.Mathlib.Nat.{le_refl, sub-zero, add_assoc, zero-add, add-zero}
+use native.Mathlib.Nat.{le_refl, sub-zero, add_assoc}
 use native.Mathlib.Numerals.{add-one}
 use native.Mathlib.Omega.{arith}
-use borrow.Author.Tests.{eq-eqb, ne_eqb}
+use borrow.Author.Tests.{ne_eqb}
 use lib.Dec.{eqb}
 use lib.ListN.{length, get_or, take, drop, drop_of_length-le}
 use lib.Seq.{drop-cons, get_or-take, length-take-le}
 use Rattle.model.specs.Network.{len_of}
-use Rattle.model.specs.Path.{path, walk_from, path_length, place, on, ScanPath}
+use Rattle.model.specs.Path.{path, walk_from, path_length, place, on}
 use Rattle.model.specs.PathSum.{sum_from}
 use Rattle.model.specs.Text.{bind}
 use Rattle.model.proofs.Lists.{some_same}
 use Rattle.model.proofs.PathSums.{sum_of, walk_sum}
 use Rattle.network_words.specs.Words.{word_width}
 use Rattle.network_path.specs.Layout.{node_at, look_in, scan_path, Way}
-use Rattle.network_path.specs.Answers.{Walkable, Walks, told_from, FallsFrom, sum_told, HoldsPath, told, WalkHeld, FindsPath}
-use Rattle.network_path.specs.declared.walk.Walked.{Walked}
-use Rattle.network_path.specs.declared.walk.Walked.TheVariants.{Path, Stop as Stopped}
+use Rattle.network_path.specs.Answers.{Walked, Walkable, Walks, told_from, FallsFrom, sum_told, HoldsPath, told, WalkHeld, FindsPath}
 use Rattle.network_path.proofs.WalkLaws.{way_up}
 
 -- ---- the whole walk
@@ -35,8 +33,8 @@ module _ (ns bits known : List ℕ) (out : ℕ) (old : List ℕ) (r : Walked) (w
       size = w.size ∙ asked.size
 
       from_none : (r : Walked) → told_from ns way 0 r ≡ told ns way r
-      from_none (Path n sum) = ap (λ (m : ℕ). path (scan_path ns (take m way))) (sub-zero n)
-      from_none (Stopped m) = refl
+      from_none (Ok size) = ap (λ (m : ℕ). path (scan_path ns (take m way))) (sub-zero size.segments)
+      from_none (Err m) = refl
 
       tells : walk_from (node_at ns) (look_in bits known) out out ≡ told ns way r
       tells = w.tells out (le_refl out) ∙ from_none r
@@ -44,12 +42,12 @@ module _ (ns bits known : List ℕ) (out : ℕ) (old : List ℕ) (r : Walked) (w
       -- the sum is the length of the path that was found
       holds : (r : Walked) → FallsFrom ns way out 0 r → walk_from (node_at ns) (look_in bits known) out out ≡ told ns way r
           → sum_from (node_at ns) (look_in bits known) out out ≡ sum_told r → WalkHeld ns way r
-      holds (Path n sum) f t s =
+      holds (Ok found) f t s =
           let a = asked.room in
-          let falls : Way ns (suc out) (take n way) = subst (λ (m : ℕ). Way ns (suc out) (take m way)) (sub-zero n) f.2 in
-          let length-of : some sum ≡ some (path_length (scan_path ns (take n way))) = sym s ∙ walk_sum (node_at ns) (look_in bits known) out out ∙ ap sum_of t in
-          (record { size = size; count = omega (arith, f.1); falls = way_up ns (suc out) 129 (take n way) (omega arith) falls }, some_same _ _ length-of)
-      holds (Stopped m) f t s = tt
+          let falls : Way ns (suc out) (take found.segments way) = subst (λ (m : ℕ). Way ns (suc out) (take m way)) (sub-zero found.segments) f.2 in
+          let length-of : some found.bits ≡ some (path_length (scan_path ns (take found.segments way))) = sym s ∙ walk_sum (node_at ns) (look_in bits known) out out ∙ ap sum_of t in
+          (record { size = size; count = omega (arith, f.1); falls = way_up ns (suc out) 129 (take found.segments way) (omega arith) falls }, some_same _ _ length-of)
+      holds (Err m) f t s = tt
 
 -- ---- segment i of a path
 
@@ -60,6 +58,7 @@ way_drop ns m (k ∷ ks) (suc i) w = way_up ns k m (drop i ks) (let a : k < m = 
 
 -- segment i has the number k: what is known of it, and the segments behind it
 pub record SegmentOn (ns way : List ℕ) (n i k : ℕ) : Type 0 where
+  pub within : i < n
   pub splits : drop i (take n way) ≡ k ∷ drop (i + 1) (take n way)
   pub number : 1 ≤ k
   pub below : k < 129
@@ -68,16 +67,21 @@ pub record SegmentOn (ns way : List ℕ) (n i k : ℕ) : Type 0 where
   pub later : Way ns k (drop (i + 1) (take n way))
 
 module _ (ns way : List ℕ) (n : ℕ) (h : HoldsPath ns way n) where
-  pub segment_on : (i k : ℕ) → i < n → k ≡ get_or way i 0 → SegmentOn ns way n i k
-  segment_on i k l e =
-      let long : length (take n way) ≡ n = length-take-le n way (omega (arith, h.size, h.count)) in
+  long : length (take n way) ≡ n
+  long = length-take-le n way (omega (arith, h.size, h.count))
+
+  pub segment_in : (i k : ℕ) → i < length (take n way) → k ≡ get_or (take n way) i 0 → SegmentOn ns way n i k
+  segment_in i k l e =
       let splits : drop i (take n way) ≡ k ∷ drop (i + 1) (take n way) =
-      drop-cons (take n way) i 0 (omega arith) ∙ ap (λ (k : ℕ). k ∷ drop (suc i) (take n way)) (get_or-take n way i 0 l ∙ sym e) ∙ rw (add-one i) in
+      drop-cons (take n way) i 0 (omega arith) ∙ ap (λ (k : ℕ). k ∷ drop (suc i) (take n way)) (sym e) ∙ rw (add-one i) in
       let w = subst (Way ns 129) splits (way_drop ns 129 (take n way) i h.falls) in
-      record { splits = splits; number = w.0; below = w.1; least = w.2; most = w.3; later = w.4 }
+      record { within = omega (arith, long); splits = splits; number = w.0; below = w.1; least = w.2; most = w.3; later = w.4 }
+
+  pub segment_on : (i k : ℕ) → i < n → k ≡ get_or way i 0 → SegmentOn ns way n i k
+  segment_on i k l e = segment_in i k (omega (arith, long)) (e ∙ sym (get_or-take n way i 0 l))
 
   pub path_end : (i : ℕ) → n ≤ i → drop i (take n way) ≡ []
-  path_end i l = drop_of_length-le (take n way) {i = i} (omega (arith, length-take-le n way (omega (arith, h.size, h.count))))
+  path_end i l = drop_of_length-le (take n way) {i = i} (omega (arith, long))
 
 -- ---- a segment's place: p bits are passed, and the place among the rest makes the whole
 
@@ -85,48 +89,18 @@ pub record Passed (ns way : List ℕ) (n s i p : ℕ) : Type 0 where
   pub bound : p ≤ word_width * i
   pub whole : bind (place (scan_path ns (drop i (take n way))) s) (λ q. some (p + q)) ≡ place (scan_path ns (take n way)) s
 
-none_before : (o : Option ℕ) → bind o (λ q. some (0 + q)) ≡ o
-none_before none = refl
-none_before (some q) = ap some (zero-add q)
-
 more_before : (o : Option ℕ) (p len : ℕ) → bind o (λ q. some (p + len + q)) ≡ bind (bind o (λ q. some (len + q))) (λ q. some (p + q))
 more_before none p len = refl
 more_before (some q) p len = ap some (add_assoc p len q)
 
 module _ (ns way : List ℕ) (n s : ℕ) where
-  pub passed_none : Passed ns way n s 0 0
-  passed_none = record { bound = omega arith; whole = none_before (place (scan_path ns (take n way)) s) }
-
   -- the place, by segment i
   by_segment : (i k : ℕ) → SegmentOn ns way n i k → place (scan_path ns (drop i (take n way))) s
       ≡ cond (eqb k s) (some 0) (bind (place (scan_path ns (drop (i + 1) (take n way))) s) (λ q. some (len_of (node_at ns k) + q)))
   by_segment i k on = ap (λ (ks : List ℕ). place (scan_path ns ks) s) on.splits
-
-  pub passed_found : (i p k : ℕ) → SegmentOn ns way n i k → k ≡ s → Passed ns way n s i p → some p ≡ place (scan_path ns (take n way)) s
-  passed_found i p k on e w =
-      let here : place (scan_path ns (drop i (take n way))) s ≡ some 0 = by_segment i k on ∙ rw (eq-eqb k s e) in
-      ap some (sym (add-zero p)) ∙ (rw here at w.whole)
 
   pub passed_more : (i p k len : ℕ) → SegmentOn ns way n i k → (k ≡ s → ⊥) → len ≡ len_of (node_at ns k) → Passed ns way n s i p → Passed ns way n s (i + 1) (p + len)
   passed_more i p k len on ne e w =
       let there : place (scan_path ns (drop i (take n way))) s ≡ bind (place (scan_path ns (drop (i + 1) (take n way))) s) (λ q. some (len + q)) =
       by_segment i k on ∙ rw (ne_eqb k s ne, ← e) in
       record { bound = omega arith; whole = more_before (place (scan_path ns (drop (i + 1) (take n way))) s) p len ∙ (rw there at w.whole) }
-
-  pub passed_all : (i p : ℕ) → drop i (take n way) ≡ [] → Passed ns way n s i p → none ≡ place (scan_path ns (take n way)) s
-  passed_all i p l w = rw l at w.whole
-
--- ---- a segment has a place exactly where it is on the path
-
-abbrev pub is_place : Option ℕ → Bool
-is_place none = false
-is_place (some p) = true
-
-pub on_place : (p : ScanPath) (s : ℕ) → on p s ≡ is_place (place p s)
-on_place [] s = refl
-on_place (h ∷ p) s = go (eqb h.number s) (place p s) (on_place p s)
-  where
-    go : (t : Bool) (o : Option ℕ) → on p s ≡ is_place o → (t || on p s) ≡ is_place (cond t (some 0) (bind o (λ q. some (h.len + q))))
-    go true o e = refl
-    go false none e = e
-    go false (some q) e = e

@@ -1,13 +1,11 @@
 -- Laws for the callers of a network that the arrays hold: their lengths, what `find_path` asks and answers, and the sums of the walk.
 -- Assumes nothing.
 use mathlib.Core.Path.{◌≡◌, sym, ap, subst, ◌∙◌}
-use mathlib.Core.Bool.{Bool, true, false, cond}
-use mathlib.Core.Option.{some}
+use Rattle.std.specs.Prelude.{Some as some, Result, Ok, Err}
 use mathlib.Core.List.{List}
-use Prim.Native.Nat.{ℕ, suc, ◌-◌, ◌/◌, ◌%◌, ◌<◌, ◌≤◌}
+use Prim.Native.Nat.{ℕ, suc, ◌<◌, ◌≤◌}
 use native.Mathlib.Nat.{le_refl}
 use native.Mathlib.Omega.{arith}
-use lib.Dec.{leb}
 use lib.ListN.{length, get_or, take}
 use Rattle.model.specs.Network.{Node, Network, no_node, len_of}
 use Rattle.model.specs.Path.{path, stop, bit_of, walk, walk_from, node_of, path_of, path_in}
@@ -19,9 +17,8 @@ use Rattle.model.proofs.Walking.{valid_by}
 use Rattle.network_words.specs.Words.{word_width}
 use Rattle.network_path.specs.Layout.{node_at, nodes_of, look_in, config_of, scan_path}
 use Rattle.network_path.specs.Stored.{Stored, PathFound, WalkSums}
-use Rattle.network_path.specs.Answers.{Walkable, sum_told, walked_by, told, WalkHeld, FindsPath}
-use Rattle.network_path.specs.declared.walk.Walked.{Walked}
-use Rattle.network_path.specs.declared.walk.Walked.TheVariants.{Path, Stop as Stopped}
+use Rattle.network_path.specs.Answers.{Walked, Walkable, sum_told, walked, told, WalkHeld, FindsPath}
+use Rattle.network_path.specs.declared.walk.PathSize.{PathSize}
 use Rattle.network_path.proofs.ConfigLaws.{good_at, good_most, good_safe, walk_config, found_config}
 
 module _ (net : Network) (ns : List ℕ) (count out : ℕ) (st : Stored net ns count out) where
@@ -46,27 +43,24 @@ module _ (net : Network) (ns : List ℕ) (count out : ℕ) (st : Stored net ns c
         ∙ ap (λ (n : ℕ). walk_from (node_of (nodes_of ns count)) (bit_of (config_of ns bits known count)) n n) st.feeds
         ∙ found_config ns count st.most stored_good bits known out r way stored_out f
 
-    pub found_stop : (m : ℕ) → r ≡ Stopped m → walk net (config_of ns bits known count) ≡ stop m
+    pub found_stop : (m : ℕ) → r ≡ Err m → walk net (config_of ns bits known count) ≡ stop m
     found_stop m e = found_walk ∙ ap (told ns way) e
 
-    pub found_path : (n len : ℕ) → r ≡ Path n len → PathFound net (config_of ns bits known count) ns way n len
-    found_path n len e =
-        let w : walk net (config_of ns bits known count) ≡ path (scan_path ns (take n way)) = found_walk ∙ ap (told ns way) e in
-        let h : WalkHeld ns way (Path n len) = subst (WalkHeld ns way) e f.holds in
-        record { walks = w; is = ap path_of w; valid = valid_by net (config_of ns bits known count) (scan_path ns (take n way)) w; holds = h.0; long = h.1 }
+    pub found_path : (size : PathSize) → r ≡ Ok size → PathFound net (config_of ns bits known count) ns way size.segments size.bits
+    found_path size e =
+        let w : walk net (config_of ns bits known count) ≡ path (scan_path ns (take size.segments way)) = found_walk ∙ ap (told ns way) e in
+        let h : WalkHeld ns way (Ok size) = subst (WalkHeld ns way) e f.holds in
+        record { walks = w; is = ap path_of w; valid = valid_by net (config_of ns bits known count) (scan_path ns (take size.segments way)) w; holds = h.0; long = h.1 }
 
 -- ---- document 02, Change 5
 
--- an answer with a sum has it in its last digits
-sum_digits : (r s : ℕ) → sum_told (walked_by r) ≡ some s → r % 10000 ≡ s
-sum_digits r s e = by (leb (r / 10000) 128) e
-  where
-    by : (t : Bool) → sum_told (cond t (Path (r / 10000) (r % 10000)) (Stopped (r / 10000 - 128))) ≡ some s → r % 10000 ≡ s
-    by true q = some_same (r % 10000) s q
-    by false q = absurd (none_some s q)
+-- a walk that has a sum has this one
+sum_is : (sum s : ℕ) (end : Result ℕ ℕ) → sum_told (walked sum end) ≡ some s → sum ≡ s
+sum_is sum s (Ok n) e = some_same sum s e
+sum_is sum s (Err m) e = absurd (none_some s e)
 
 pub walk_sums : WalkSums
-walk_sums net ns count out st bits known v k m old met r way w =
+walk_sums net ns count out st bits known v k m old met sum end way w =
     let c = config_of ns bits known count in
     let low = met_within net st.formed c k m in
     -- the model's walk from the node is the walk over the arrays, so the sums are the same
@@ -75,4 +69,4 @@ walk_sums net ns count out st bits known v k m old met r way w =
     ∙ walk_sum (node_of (nodes_of ns count)) (bit_of c) k k
     ∙ ap sum_of (walk_config ns count st.most (stored_good net ns count out st) bits known k k (omega (arith, stored_out net ns count out st, st.feeds)))
     ∙ sym (walk_sum (node_at ns) (look_in bits known) k k) in
-    sum_digits r (bits_up_to (path_in net c) k) (sym (w.sums k (le_refl k)) ∙ sym same ∙ (sums_up net st.formed c v).each k m)
+    sum_is sum (bits_up_to (path_in net c) k) end (sym (w.sums k (le_refl k)) ∙ sym same ∙ (sums_up net st.formed c v).each k m)

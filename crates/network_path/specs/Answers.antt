@@ -1,7 +1,7 @@
 -- What the answers of the walk, the places and the load say, in the terms of the model.
 -- Assumes nothing.
-use Rattle.std.specs.Prelude.{◌≡◌, cond, false, List, map, ℕ, suc, ◌+◌, ◌-◌, ◌*◌, ◌/◌, ◌%◌, ◌≤◌, leb, length, take, drop}
-use Rattle.std.proofs.Math.Option.{Option, none, some}
+use Rattle.std.specs.Prelude.{◌≡◌, cond, false, List, map, ℕ, suc, ◌+◌, ◌-◌, ◌*◌, ◌≤◌, leb, length, take, drop}
+use Rattle.std.specs.Prelude.{Option, None as none, Some as some, Result, Ok, Err, option_map, IfErr}
 use Rattle.model.specs.Limits.{max_nodes}
 use Rattle.model.specs.Text.{Trit}
 use Rattle.model.specs.Network.{Node, segment, multiplexer}
@@ -9,35 +9,21 @@ use Rattle.model.specs.Path.{Walk, path, stop, value_of, pick, address, walk_fro
 use Rattle.model.specs.PathSum.{sum_from}
 use Rattle.network_words.specs.Words.{word_width, trit_at, byte_bit}
 use Rattle.network_path.specs.Layout.{node_at, look_in, scan_path, config_of, Way, Safe, node_numbers}
-use Rattle.network_path.specs.declared.walk.Address.{Address}
-use Rattle.network_path.specs.declared.walk.Address.TheVariants.{Input as AtInput, Unknown}
 use Rattle.network_path.specs.declared.walk.Step.{Step}
-use Rattle.network_path.specs.declared.walk.Step.TheVariants.{Segment, Input, Stop}
-use Rattle.network_path.specs.declared.walk.Walked.{Walked}
-use Rattle.network_path.specs.declared.walk.Walked.TheVariants.{Path, Stop as Stopped}
-use Rattle.network_path.specs.declared.places.Place.{Place}
-use Rattle.network_path.specs.declared.places.Place.TheVariants.{At, Off}
+use Rattle.network_path.specs.declared.walk.Step.TheVariants.{Segment, Input}
+use Rattle.network_path.specs.declared.walk.PathSize.{PathSize}
 
 -- ---- one step
-
--- the address that an answer gives
-abbrev pub addressed : Address → Option ℕ
-addressed (AtInput i) = some i
-addressed Unknown = none
 
 -- the address in a segment's two words: the model's `address`, by the count of inputs
 abbrev pub address_of_words : ℕ → ℕ → ℕ → ℕ → Option ℕ
 address_of_words bits known b inputs =
     cond (leb inputs 2) (value_of (trit_at bits known b) (some false)) (value_of (trit_at bits known b) (trit_at bits known (suc b)))
 
-abbrev pub step_to : Option ℕ → Step
-step_to none = Stop
-step_to (some m) = Input m
-
 -- from a node: "a segment leads to FROM, a multiplexer to the addressed input"
-abbrev pub step_of : (ℕ → ℕ → Trit) → Node → Step
-step_of look (segment from len shadow) = Segment from
-step_of look (multiplexer s b ins) = step_to (pick ins (address look s b ins))
+abbrev pub step_of : (ℕ → ℕ → Trit) → Node → Option Step
+step_of look (segment from len shadow) = some (Segment from)
+step_of look (multiplexer s b ins) = option_map Input (pick ins (address look s b ins))
 
 -- ---- the walk from a node, with the segments met so far at the front of the lent memory
 
@@ -51,38 +37,34 @@ pub record Walkable (ns : List ℕ) (at : ℕ) (way : List ℕ) (met : ℕ) : Ty
 abbrev pub added : List ℕ → ℕ → ℕ → List ℕ
 added way met n = take (n - met) (drop met way)
 
+-- the size of a path, or the multiplexer that stops the walk
+abbrev pub Walked : Type 0
+Walked = Result PathSize ℕ
+
+-- what a sum of bits and the end of a walk, a count of segments or a multiplexer, say together
+abbrev pub walked : ℕ → Result ℕ ℕ → Walked
+walked sum (Ok n) = Ok record { segments = n; bits = sum }
+walked sum (Err m) = Err m
+
 -- what an answer says of the walk
 abbrev pub told_from : List ℕ → List ℕ → ℕ → Walked → Walk
-told_from ns way met (Path n sum) = path (scan_path ns (added way met n))
-told_from ns way met (Stopped m) = stop m
+told_from ns way met (Ok size) = path (scan_path ns (added way met size.segments))
+told_from ns way met (Err m) = stop m
 
 -- the segments added have falling numbers from this node on
 abbrev pub FallsFrom : List ℕ → List ℕ → ℕ → ℕ → Walked → Type 0
-FallsFrom ns way at met (Path n sum) = (met ≤ n) × (n ≤ met + at) × Way ns (suc at) (added way met n)
-FallsFrom ns way at met (Stopped m) = Unit {0}
+FallsFrom ns way at met (Ok size) = (met ≤ size.segments) × (size.segments ≤ met + at) × Way ns (suc at) (added way met size.segments)
+FallsFrom ns way at met (Err m) = Unit {0}
 
 -- the sum that an answer gives; none where a multiplexer stops the walk
 abbrev pub sum_told : Walked → Option ℕ
-sum_told (Path n sum) = some sum
-sum_told (Stopped m) = none
+sum_told (Ok size) = some size.bits
+sum_told (Err m) = none
 
--- added to the number of the multiplexer that stops a walk
-abbrev pub stopped : ℕ
-stopped = max_nodes
-
--- greater than every sum of bits: at most 8,192 = 128 × 64
-abbrev pub sum_limit : ℕ
-sum_limit = 10000
-
--- the answer in one number: the sum, and above it, in units of `sum_limit`, the count of segments met, or the number of the multiplexer
--- that stops the walk, with `stopped` added
-abbrev pub walked_by : ℕ → Walked
-walked_by r = cond (leb (r / sum_limit) stopped) (Path (r / sum_limit) (r % sum_limit)) (Stopped (r / sum_limit - stopped))
-
--- both have room in the number: the sum is at most a word for each node number up to this one
-pub record InOneNumber (at r : ℕ) : Type 0 where
-  pub ended : r / sum_limit ≤ stopped + max_nodes
-  pub sum : r % sum_limit ≤ word_width * at
+-- the sum is at most a word for each node number up to this one, and the multiplexer that stops the walk has no greater number
+pub record EndsWithin (at sum : ℕ) (end : Result ℕ ℕ) : Type 0 where
+  pub bits : sum ≤ word_width * at
+  pub stop : IfErr end (λ m. m ≤ at)
 
 -- the answer r, with `old` in the lent memory before and `way` in it after
 pub record Walks (ns bits known : List ℕ) (at : ℕ) (old : List ℕ) (met : ℕ) (r : Walked) (way : List ℕ) : Type 0 where
@@ -102,25 +84,18 @@ pub record HoldsPath (ns way : List ℕ) (n : ℕ) : Type 0 where
 
 -- what an answer says of the walk, and of the lent memory
 abbrev pub told : List ℕ → List ℕ → Walked → Walk
-told ns way (Path n sum) = path (scan_path ns (take n way))
-told ns way (Stopped m) = stop m
+told ns way (Ok size) = path (scan_path ns (take size.segments way))
+told ns way (Err m) = stop m
 
 abbrev pub WalkHeld : List ℕ → List ℕ → Walked → Type 0
-WalkHeld ns way (Path n sum) = HoldsPath ns way n × (sum ≡ path_length (scan_path ns (take n way)))
-WalkHeld ns way (Stopped m) = Unit {0}
+WalkHeld ns way (Ok size) = HoldsPath ns way size.segments × (size.bits ≡ path_length (scan_path ns (take size.segments way)))
+WalkHeld ns way (Err m) = Unit {0}
 
 -- the answer r, with `way` in the lent memory after
 pub record FindsPath (ns bits known : List ℕ) (out : ℕ) (r : Walked) (way : List ℕ) : Type 0 where
   pub tells : walk_from (node_at ns) (look_in bits known) out out ≡ told ns way r
   pub holds : WalkHeld ns way r
   pub size : length way ≡ max_nodes
-
--- ---- places
-
--- the place that an answer gives
-abbrev pub placed : Place → Option ℕ
-placed (At p) = some p
-placed Off = none
 
 -- ---- the load
 

@@ -35,19 +35,12 @@ pub const BIT: usize = 2;
 
 pub const INPUTS: usize = 4;
 
-// A number of the record as an index.
-pub fn wide(x: u16) -> usize
-    ensures { result ≡ x }
-{
-    x as usize
-}
-
 // Number i of node k.
 pub fn field(nodes: &Nodes, k: usize, i: usize) -> usize
     requires { (k ≤ max_nodes) × (i < 8) }
     ensures { result ≡ field_at nodes.now k i }
 {
-    wide(nodes[k * 8 + i])
+    usize::from(nodes[k * 8 + i])
 }
 
 // The LEN of a segment; 0 for a multiplexer.

@@ -22,6 +22,13 @@ pub sum_step : (ns steering : List ℕ) (s count : ℕ) → s ≤ count
 unfolding count_from
 sum_step ns steering s count l = let e : count + 1 - s ≡ suc (count + 1 - (s + 1)) = omega arith in let f : s + 1 ≡ suc s = omega arith in rw (e, f) refl
 
+-- segment s is counted, by its LEN
+pub sum_more : (ns steering : List ℕ) (s count len sum k total : ℕ) → s ≤ count → len ≡ len_of (node_at ns s) → k ≡ count_in (get_or steering s 0) 0 len
+    → sum + count_from ns steering s (count + 1 - s) ≡ total → sum + k + count_from ns steering (s + 1) (count + 1 - (s + 1)) ≡ total
+sum_more ns steering s count len sum k total h l e i =
+    let f : count_in (get_or steering s 0) 0 len ≡ count_in (get_or steering s 0) 0 (len_of (node_at ns s)) = ap (count_in (get_or steering s 0) 0) l in
+    omega (arith, sum_step ns steering s count h)
+
 -- everything is left
 pub count_start : (w len : ℕ) → 0 + count_in w 0 (len - 0) ≡ count_in w 0 len
 count_start w len = let e : len - 0 ≡ len = omega arith in omega (arith, ap (count_in w 0) e)

@@ -1,26 +1,27 @@
 -- The contract of `read_network` fixes the reading of a text: a network fixes its record.
 -- Assumes nothing.
-use mathlib.Core.Path.{◌≡◌, sym, ap, ◌∙◌}
-use mathlib.Core.List.{List, []}
+use mathlib.Core.Path.{◌≡◌, refl, sym, ap, ◌∙◌}
+use mathlib.Core.List.{List, [], ◌∷◌}
+use Rattle.std.specs.Prelude.{Result as Answer, Ok, Err}
 use Prim.Native.Nat.{ℕ, ◌/◌, ◌%◌, ◌<◌}
 use native.Mathlib.Omega.{arith}
 use native.Mathlib.Nat.{div-add-mod'}
 use lib.ListN.{length, get_or}
 use lib.Seq.{ext_get_or}
+use Rattle.model.specs.Answers.{number_of}
+use Rattle.model.specs.declared.refusal.Kind.{Kind}
+use Rattle.model.specs.declared.refusal.Kind.TheVariants.{Form, Bounds, Size, Order, Address, Entry, SteeringTarget, TargetCount, Start, SteeringCount, NoPlan, SearchSpace, Buffer, PlanForm, BitCount, Configuration, Target as TargetKind, ResetLength, ClockLine}
 use Rattle.model.specs.Network.{Node, Target, Network as ModelNetwork, at, no_node, total_bits, steers, steering_bits}
-use Rattle.model.specs.NetworkText.{target_segment}
+use Rattle.model.specs.NetworkText.{read_network}
 use Rattle.model.specs.Path.{path_in, path_length}
 use Rattle.model.proofs.Lists.{length_tabulate, not_ok, ok_is, refusal_number, refusal_place}
 use Rattle.network_words.specs.Words.{word_width, bits_word, known_word}
 use Rattle.network_path.specs.Layout.{field_at, node_at}
-use Rattle.network_draft.specs.Numbers.{numbers_for, no_target, target_flag, target_word}
+use Rattle.network_draft.specs.Numbers.{numbers_for, no_target, stored_target}
 use Rattle.network_draft.specs.Represents.{target_at}
 use Rattle.network_draft.proofs.SteeringWords.{word_same}
 use Rattle.network_reader.specs.declared.reader.Network.{Network}
-use Rattle.network_reader.specs.declared.reader.Acceptance.{Acceptance}
-use Rattle.network_reader.specs.declared.reader.Acceptance.TheVariants.{Accepted, Refused as Rejected}
-use Rattle.network_reader.specs.declared.reader.Reading.{Reading}
-use Rattle.network_reader.specs.Reads.{recorded_network, reading_by, RecordComplete, RecordCompleteIf}
+use Rattle.network_reader.specs.Reads.{recorded_network, RecordComplete, IsReading}
 use Rattle.network_reader.specs.Demand.{OneReading}
 
 module _ (r q : Network) (c : RecordComplete r) (e : RecordComplete q) (same : recorded_network r ≡ recorded_network q) where
@@ -62,17 +63,14 @@ module _ (r q : Network) (c : RecordComplete r) (e : RecordComplete q) (same : r
       sym (length_tabulate (target_at r.nodes r.summary) 0 r.summary.target_count) ∙ ap length targets_same
       ∙ length_tabulate (target_at q.nodes q.summary) 0 q.summary.target_count
 
-  -- a number of each target
-  module _ (f : Target → ℕ) (l m : List ℕ) (long : length l ≡ length m)
-      (of-r : (i : ℕ) → get_or l i 0 ≡ f (get_or (recorded_network r).targets i no_target)) (of-q : (i : ℕ) → get_or m i 0 ≡ f (get_or (recorded_network q).targets i no_target)) where
-    of_target : l ≡ m
-    of_target = ext_get_or 0 l m long (λ i h. of-r i ∙ ap (λ (ts : List Target). f (get_or ts i no_target)) targets_same ∙ sym (of-q i))
+  -- the targets as they are stored
+  stored_same : r.summary.targets ≡ q.summary.targets
+  stored_same =
+      ext_get_or (stored_target no_target) r.summary.targets q.summary.targets (c.in_limits.targets_room ∙ sym e.in_limits.targets_room)
+      (λ i h. c.numbers_of_targets i ∙ ap (λ (ts : List Target). stored_target (get_or ts i no_target)) targets_same ∙ sym (e.numbers_of_targets i))
 
   record_fixed : r ≡ q
   record_fixed =
-      let s = of_target target_segment r.summary.target_segment q.summary.target_segment (c.in_limits.segments ∙ sym e.in_limits.segments) (λ i. (c.numbers_of_targets i).segment_is) (λ i. (e.numbers_of_targets i).segment_is) in
-      let w = of_target target_flag r.summary.target_write q.summary.target_write (c.in_limits.words ∙ sym e.in_limits.words) (λ i. (c.numbers_of_targets i).flag_is) (λ i. (e.numbers_of_targets i).flag_is) in
-      let b = of_target target_word r.summary.target_bits q.summary.target_bits (c.in_limits.bits ∙ sym e.in_limits.bits) (λ i. (c.numbers_of_targets i).word_is) (λ i. (e.numbers_of_targets i).word_is) in
       let total = c.totals ∙ ap total_bits nodes_same ∙ sym e.totals in
       let out = ap (λ (n : ModelNetwork). n.out) same in
       let counted = c.counted ∙ ap (λ (ns : List Node). length (steering_bits ns)) nodes_same ∙ sym e.counted in
@@ -89,20 +87,45 @@ module _ (r q : Network) (c : RecordComplete r) (e : RecordComplete q) (same : r
           has_out = fed i;
           out = out i;
           target_count = target_count_same i;
-          target_segment = s i;
-          target_write = w i;
-          target_bits = b i;
+          targets = stored_same i;
         };
         steering_count = counted i;
         start_length = long i;
       }
 
+-- ---- the number of a kind fixes it
+
+-- the kind of a number; none has 0
+kind_of : ℕ → Kind
+kind_of n = get_or (Form ∷ Form ∷ Bounds ∷ Size ∷ Order ∷ Address ∷ Entry ∷ SteeringTarget ∷ TargetCount ∷ Start ∷ SteeringCount ∷ NoPlan ∷ SearchSpace ∷ Buffer ∷ PlanForm ∷ BitCount ∷ Configuration ∷ TargetKind ∷ ResetLength ∷ ClockLine ∷ []) n Form
+
+kind_law : (k : Kind) → kind_of (number_of k) ≡ k
+unfolding kind_of
+kind_law Form = refl
+kind_law Bounds = refl
+kind_law Size = refl
+kind_law Order = refl
+kind_law Address = refl
+kind_law Entry = refl
+kind_law SteeringTarget = refl
+kind_law TargetCount = refl
+kind_law Start = refl
+kind_law SteeringCount = refl
+kind_law NoPlan = refl
+kind_law SearchSpace = refl
+kind_law Buffer = refl
+kind_law PlanForm = refl
+kind_law BitCount = refl
+kind_law Configuration = refl
+kind_law TargetKind = refl
+kind_law ResetLength = refl
+kind_law ClockLine = refl
+
 pub reading_fixed : OneReading
-reading_fixed t r q c e = go r.verdict q.verdict r.network q.network (c.reads ∙ sym e.reads) c.filled e.filled
-  where
-    go : (v u : Acceptance) (n m : Network) → reading_by v n ≡ reading_by u m → RecordCompleteIf v n → RecordCompleteIf u m
-        → ◌≡◌ {A = Reading} record { verdict = v; network = n } record { verdict = u; network = m }
-    go Accepted Accepted n m z f g = ap (λ (x : Network). record { verdict = Accepted; network = x }) (record_fixed n m f g (ok_is z))
-    go Accepted (Rejected number place) n m z f g = absurd (not_ok (sym z))
-    go (Rejected number place) Accepted n m z f g = absurd (not_ok z)
-    go (Rejected a b) (Rejected x y) n m z f g = λ i. record { verdict = Rejected (refusal_number z i) (refusal_place z i); network = (f ∙ sym g) i }
+reading_fixed t (Ok n) (Ok m) c e = ap Ok (record_fixed n m c.filled e.filled (ok_is (c.reads ∙ sym e.reads)))
+reading_fixed t (Ok n) (Err s) c e = absurd (not_ok (e.reads ∙ sym c.reads))
+reading_fixed t (Err r) (Ok m) c e = absurd (not_ok (c.reads ∙ sym e.reads))
+reading_fixed t (Err r) (Err s) c e =
+    let z = c.reads ∙ sym e.reads in
+    let kind : r.kind ≡ s.kind = sym (kind_law r.kind) ∙ ap kind_of (refusal_number z) ∙ kind_law s.kind in
+    λ i. Err record { kind = kind i; place = refusal_place z i }

@@ -1,55 +1,53 @@
 -- Laws of the lines in turn: what a parsed line adds, and where the loop over the lines stands.
 -- Assumes nothing.
 use mathlib.Core.Path.{◌≡◌, refl, sym, ap, ◌∙◌, subst}
+use mathlib.Core.Bool.{Bool, true, false}
 use mathlib.Core.List.{List, [], ◌∷◌}
+use Rattle.std.specs.Prelude.{Some as some, Ok, Err}
 use Prim.Native.Nat.{ℕ, suc, ◌+◌, ◌-◌, ◌≤◌, ◌<◌}
 use native.Mathlib.Omega.{arith}
 use native.Mathlib.Numerals.{add-one}
 use lib.ListN.{length, take, drop, drop_of_length-le, length-drop}
 use Rattle.model.specs.Limits.{max_len}
 use Rattle.model.specs.Result.{Result, ok, refused, and_then}
+use Rattle.model.specs.Answers.{number_of}
 use Rattle.model.specs.Text.{Bytes, parts, line_end}
-use Rattle.model.specs.NetworkText.{Draft, no_lines, line_of, add_line, at_end, read_lines}
+use Rattle.model.specs.NetworkText.{Draft, no_lines, line_of, add_line, at_end, read_lines, finish}
+use Rattle.model.specs.declared.refusal.Refusal.{Refusal}
 use Rattle.model.proofs.PlanTexts.{parts_more}
 use Rattle.text.specs.Places.{IsEnd}
 use Rattle.text.proofs.Parts.{rest_alone, rest_ended}
 use Rattle.network_line.specs.declared.Entry.{Entry}
 use Rattle.network_line.specs.declared.ParsedLine.{ParsedLine}
-use Rattle.network_draft.specs.declared.add.Refusal.{Refusal}
-use Rattle.network_draft.specs.declared.add.Refusal.TheVariants.{Nothing, Refused}
-use Rattle.network_line.specs.Line.{bytes_at, entry_means, GoodEntry, IsParsedLine}
+use Rattle.network_line.specs.Line.{entry_means, GoodEntry, IsParsedLine}
 use Rattle.network_draft.specs.declared.store.Summary.{Summary}
-use Rattle.network_draft.specs.declared.add.Added.{Added}
-use Rattle.network_reader.specs.declared.reader.Lines.{Lines}
-use Rattle.network_draft.specs.Represents.{Arrays, Represents, Agrees}
-use Rattle.network_reader.specs.Reads.{LineAdded, LinesAre, LinesRead}
+use Rattle.network_draft.specs.Represents.{feeds_of, Arrays, Represents, Agrees}
+use Rattle.network_reader.specs.Reads.{LineAdded, Lined, finish_of}
 
 -- ---- a parsed line
 
-module _ (l : Bytes) (p : ParsedLine) (is : IsParsedLine l p) (e : Entry) (q : p.entry ≡ e) where
-  pub line_is : line_of l ≡ entry_means (bytes_at l p.start p.end) e
-  line_is = sym is.means ∙ ap (entry_means (bytes_at l p.start p.end)) q
+module _ (l : Bytes) (p : ParsedLine) (is : IsParsedLine l (some p)) (e : Entry) (q : p.entry ≡ e) where
+  pub line_is : line_of l ≡ some (entry_means p.bits.now e)
+  line_is = sym is.means ∙ ap (λ (x : Entry). some (entry_means p.bits.now x)) q
 
-  pub entry_good : GoodEntry (bytes_at l p.start p.end) e
-  entry_good = subst (GoodEntry (bytes_at l p.start p.end)) q is.good
+  pub entry_good : GoodEntry p.bits.now e
+  entry_good = subst (GoodEntry p.bits.now) q is.good
 
 -- ---- what an answer says of the model's
 
-pub was_refused : (D : Draft → Type 0) (a : Result Draft) (r : Refusal) (number place : ℕ) → Agrees D a r → r ≡ Refused number place → a ≡ refused number place
-was_refused D (ok e) r number place f q = absurd (let z : ◌≡◌ {A = ℕ} 0 1 = differ (sym f.0 ∙ q) in omega arith)
-  where
-    differ : Nothing ≡ Refused number place → ◌≡◌ {A = ℕ} 0 1
-    differ z = cc
-was_refused D (refused a b) r number place f q = let z : Refused a b ≡ Refused number place = sym f ∙ q in let x : a ≡ number = cc in let y : b ≡ place = cc in rw (x, y)
+module _ {A : Type 0} (P : A → Draft → Type 0) where
+  pub was_refused : (m : Result Draft) (r : Refusal) → Agrees P m (Err r) → m ≡ refused (number_of r.kind) r.place
+  was_refused (ok e) r f = absurd f
+  was_refused (refused number place) r f = rw (f.0, f.1)
 
-pub record Went (D : Draft → Type 0) (a : Result Draft) : Type 0 where
-  pub draft : Draft
-  pub is : a ≡ ok draft
-  pub represented : D draft
+  pub record Went (m : Result Draft) (a : A) : Type 0 where
+    pub draft : Draft
+    pub is : m ≡ ok draft
+    pub holds : P a draft
 
-pub went_on : (D : Draft → Type 0) (a : Result Draft) (r : Refusal) → Agrees D a r → r ≡ Nothing → Went D a
-went_on D (ok e) r f q = record { draft = e; is = refl; represented = f.1 }
-went_on D (refused a b) r f q = absurd (let z : Nothing ≡ Refused a b = sym q ∙ f in let y : ◌≡◌ {A = ℕ} 0 1 = cc in omega arith)
+  pub went_on : (m : Result Draft) (a : A) → Agrees P m (Ok a) → Went m a
+  went_on (ok e) a f = record { draft = e; is = refl; holds = f }
+  went_on (refused number place) a f = absurd f
 
 -- ---- the loop over the lines
 
@@ -96,36 +94,35 @@ pub record Standing (t : Bytes) (a : Arrays) (y : Summary) (at n : ℕ) : Type 0
 pub standing_start : (t : Bytes) {a : Arrays} {y : Summary} → Represents a y no_lines 1 → Standing t a y 0 1
 standing_start t w = record { draft = no_lines; represented = w; rest = refl }
 
-pub lines_refused : (t : Bytes) (a : Arrays) (r : Lines) (number place : ℕ)
-    → read_lines max_len no_lines 1 (parts line_end t) ≡ refused number place → r.refusal ≡ Refused number place → LinesRead t r a
-lines_refused t a r number place q e = subst (λ (x : Result (ℕ × Draft)). LinesAre a x r) (sym q) e
-
 module _ {t : Bytes} {a : Arrays} {y : Summary} {at n : ℕ} (s : Standing t a y at n) where
   pub standing_unended : (end : ℕ) → IsEnd line_end t at end → at < length t → end ≡ length t → read_lines max_len no_lines 1 (parts line_end t) ≡ refused 1 n
   standing_unended end e l q = s.rest ∙ unended t s.draft n at end e l q
 
-  pub standing_end : length t ≤ at → (r : Lines) → r.refusal ≡ Nothing → r.summary ≡ y → r.next ≡ n → LinesRead t r a
-  standing_end l r p o q =
-      subst (λ (x : Result (ℕ × Draft)). LinesAre a x r) (sym (s.rest ∙ no_line_left t s.draft n at l))
-      (p, q, subst (λ (x : Summary). Represents a x s.draft n) (sym o) s.represented)
+  module _ (l : length t ≤ at) where
+    standing_end : read_lines max_len no_lines 1 (parts line_end t) ≡ ok (n, s.draft)
+    standing_end = s.rest ∙ no_line_left t s.draft n at l
 
-  module _ (b : Arrays) (end : ℕ) (r : Added) (e : IsEnd line_end t at end) (l : end < length t)
-      (f : LineAdded a y (take (end - at) (drop at t)) n r b) where
-    abbrev Next : Draft → Type 0
-    Next d = Represents b r.summary d (suc n)
+    -- without an `out` line
+    pub no_out_line : y.has_out ≡ false → finish_of (read_lines max_len no_lines 1 (parts line_end t)) ≡ refused 4 n
+    no_out_line e = ap finish_of standing_end ∙ ap (finish n s.draft) (sym s.represented.out_is ∙ ap (λ (b : Bool). feeds_of b y.out) e)
 
-    abbrev Answer : Result Draft
-    Answer = add_line max_len s.draft n (line_of (take (end - at) (drop at t)))
+    pub out_line : y.has_out ≡ true → Lined t a y
+    out_line e = record { draft = s.draft; next = n; lines = standing_end; represented = s.represented; fed = e }
 
-    pub standing_refused : (number place : ℕ) → r.refusal ≡ Refused number place → read_lines max_len no_lines 1 (parts line_end t) ≡ refused number place
-    standing_refused number place q = s.rest ∙ line_refused t s.draft n at end e l number place (was_refused Next Answer r.refusal number place (f s.draft s.represented) q)
+  module _ (b : Arrays) (end : ℕ) (e : IsEnd line_end t at end) (l : end < length t) where
+    pub standing_refused : (r : Refusal) → LineAdded a y (take (end - at) (drop at t)) n (Err r) b
+        → read_lines max_len no_lines 1 (parts line_end t) ≡ refused (number_of r.kind) r.place
+    standing_refused r f = s.rest ∙ line_refused t s.draft n at end e l _ _ (was_refused _ _ r (f s.draft s.represented))
 
-    pub standing_next : r.refusal ≡ Nothing → Standing t b r.summary (end + 1) (n + 1)
-    standing_next q = go (went_on Next Answer r.refusal (f s.draft s.represented) q)
+    abbrev Next : Summary → Draft → Type 0
+    Next y' d = Represents b y' d (suc n)
+
+    pub standing_next : (y' : Summary) → LineAdded a y (take (end - at) (drop at t)) n (Ok y') b → Standing t b y' (end + 1) (n + 1)
+    standing_next y' f = go (went_on Next _ y' (f s.draft s.represented))
       where
-        go : Went Next Answer → Standing t b r.summary (end + 1) (n + 1)
+        go : Went Next (add_line max_len s.draft n (line_of (take (end - at) (drop at t)))) y' → Standing t b y' (end + 1) (n + 1)
         go w = record {
           draft = w.draft;
-          represented = subst (λ (k : ℕ). Represents b r.summary w.draft k) (sym (add-one n)) w.represented;
+          represented = subst (λ (k : ℕ). Represents b y' w.draft k) (sym (add-one n)) w.holds;
           rest = s.rest ∙ line_read t s.draft n at end e l w.draft w.is;
         }

@@ -3,33 +3,30 @@
 use mathlib.Core.Path.{◌≡◌, refl, sym, ap, ◌∙◌, subst}
 use mathlib.Core.Bool.{true}
 use mathlib.Core.List.{List, Memᴰ}
+use Rattle.std.specs.Prelude.{Ok, Err}
 use Prim.Native.Nat.{ℕ, zero, suc, ◌+◌, ◌≤◌, ◌<◌}
 use native.Mathlib.Omega.{arith}
 use native.Mathlib.Decide.{dec_lt}
 use native.Mathlib.Nat.{not-suc-le-zero}
-use lib.ListN.{get_or}
 use Rattle.model.specs.Result.{ok, refused}
+use Rattle.model.specs.Answers.{number_of}
 use Rattle.model.specs.Text.{Bytes}
 use Rattle.model.specs.Network.{Node, at, no_node, is_segment, len_of, tabulate}
 use Rattle.model.specs.NetworkText.{read_network}
 use Rattle.model.specs.Accepted.{Accepted}
+use Rattle.model.specs.declared.refusal.Refusal.{Refusal}
 use Rattle.model.proofs.Lists.{true_false}
 use Rattle.model.proofs.Accepted.{accepted}
 use Rattle.network_words.specs.Words.{word_width}
 use Rattle.network_path.specs.Layout.{node_at, nodes_of}
 use Rattle.network_path.proofs.StoredLaws.{stored_short}
 use Rattle.network_path.specs.Stored.{Stored}
-use Rattle.network_reader.specs.declared.reader.Ending.{Ending}
-use Rattle.network_reader.specs.declared.reader.Ending.TheVariants.{Recorded as Counted}
+use Rattle.network_reader.specs.declared.reader.Filled.{Filled}
 use Rattle.network_reader.specs.declared.reader.Network.{Network}
-use Rattle.network_reader.specs.declared.reader.Reading.{Reading}
-use Rattle.network_reader.specs.declared.reader.Acceptance.{Acceptance}
-use Rattle.network_reader.specs.declared.reader.Acceptance.TheVariants.{Accepted as Passed, Refused as Rejected}
-use Rattle.network_draft.specs.Represents.{target_at}
-use Rattle.network_reader.specs.Reads.{recorded_network, reading_by, RecordComplete, Uncounted, record_of, EndsAs, RecordCompleteIf, IsReading}
+use Rattle.network_draft.specs.Represents.{stored_at, target_at}
+use Rattle.network_reader.specs.Reads.{recorded_network, filled_record, RecordComplete, EndsAs, IsReading}
 use Rattle.network_path.proofs.NodeLaws.{node_zero, node_beyond}
 use Rattle.network_draft.proofs.TargetLaws.{fits_segment, target_names}
-use Rattle.network_reader.proofs.ReadingNetwork.{ends_recorded}
 
 pub record Recorded (t : Bytes) (r : Network) : Type 0 where
   pub reads : read_network t ≡ ok (recorded_network r)
@@ -37,20 +34,17 @@ pub record Recorded (t : Bytes) (r : Network) : Type 0 where
   pub net : Accepted (recorded_network r)
   pub stored : Stored (recorded_network r) r.nodes r.summary.count r.summary.out
 
-module _ (t : Bytes) (r : Reading) (is : IsReading t r) where
-  pub reading_rejected : (number place : ℕ) → r.verdict ≡ Rejected number place → read_network t ≡ refused number place
-  reading_rejected number place e = sym is.reads ∙ ap (λ (v : Acceptance). reading_by v r.network) e
+pub reading_rejected : (t : Bytes) (r : Refusal) → IsReading t (Err r) → read_network t ≡ refused (number_of r.kind) r.place
+reading_rejected t r is = sym is.reads
 
-  pub reading_recorded : r.verdict ≡ Passed → Recorded t r.network
-  reading_recorded e =
-      let q : read_network t ≡ ok (recorded_network r.network) = sym is.reads ∙ ap (λ (v : Acceptance). reading_by v r.network) e in
-      let f : RecordComplete r.network = subst (λ (v : Acceptance). RecordCompleteIf v r.network) e is.filled in
-      let a = accepted t (recorded_network r.network) q in
-      record { reads = q; filled = f; net = a; stored = record { nodes = refl; feeds = refl; most = f.in_limits.nodes_fit; formed = a.wf } }
+pub reading_recorded : (t : Bytes) (r : Network) → IsReading t (Ok r) → Recorded t r
+reading_recorded t r is =
+    let a = accepted t (recorded_network r) (sym is.reads) in
+    record { reads = sym is.reads; filled = is.filled; net = a; stored = record { nodes = refl; feeds = refl; most = is.filled.in_limits.nodes_fit; formed = a.wf } }
 
 -- the same of the arrays that a text was read into
-pub filled_recorded : (t : Bytes) (u : Uncounted) (r : Ending) → EndsAs u (read_network t) r → (count len : ℕ) → r ≡ Counted count len → Recorded t (record_of u count len)
-filled_recorded t u r ends count len e = reading_recorded t _ (ends_recorded t u r ends count len e) refl
+pub filled_recorded : (t : Bytes) (ns bits known steering : List ℕ) (f : Filled) → EndsAs ns bits known steering (read_network t) (Ok f) → Recorded t (filled_record ns bits known steering f)
+filled_recorded t ns bits known steering f ends = reading_recorded t _ record { reads = ends.reads; filled = ends.filled }
 
 -- ---- targets
 
@@ -70,15 +64,15 @@ module _ (t : Bytes) (r : Network) (c : Recorded t r) where
   abbrev ns : List Node
   ns = nodes_of r.nodes r.summary.count
 
-  target_is : (i : ℕ) → i < r.summary.target_count → is_segment (at ns (get_or r.summary.target_segment i 0) no_node) ≡ true
+  target_is : (i : ℕ) → i < r.summary.target_count → is_segment (at ns (stored_at r.summary i).segment no_node) ≡ true
   target_is i lt =
       let m = tabulate_in (target_at r.nodes r.summary) 0 r.summary.target_count i lt in
       let z : 0 + i ≡ i = omega arith in
       let f = fits_segment ns (target_at r.nodes r.summary (0 + i)) (c.net.targets_fit.fits _ m) in
-      ap (λ (k : ℕ). is_segment (at ns k no_node)) (ap (λ (k : ℕ). get_or r.summary.target_segment k 0) (sym z) ∙ sym (target_names r.nodes r.summary (0 + i))) ∙ f
+      ap (λ (k : ℕ). is_segment (at ns k no_node)) (ap (λ (k : ℕ). (stored_at r.summary k).segment) (sym z) ∙ sym (target_names r.nodes r.summary (0 + i))) ∙ f
 
-  pub target_segment_law : (i : ℕ) → i < r.summary.target_count → TargetSegment r.nodes r.summary.count (get_or r.summary.target_segment i 0)
-  target_segment_law i lt = by (get_or r.summary.target_segment i 0) (target_is i lt)
+  pub target_segment_law : (i : ℕ) → i < r.summary.target_count → TargetSegment r.nodes r.summary.count (stored_at r.summary i).segment
+  target_segment_law i lt = by (stored_at r.summary i).segment (target_is i lt)
     where
       by : (s : ℕ) → is_segment (at ns s no_node) ≡ true → TargetSegment r.nodes r.summary.count s
       by s e = go (dec_lt s 1) (dec_lt r.summary.count s)

@@ -1,41 +1,45 @@
 -- What the reader answers.
 -- Assumes nothing.
-use Rattle.std.specs.Prelude.{◌≡◌, true, List, [], ℕ, suc, ◌≤◌, ◌<◌, length, get_or, replicate}
+use Rattle.std.specs.Prelude.{◌≡◌, true, List, [], ℕ, suc, ◌≤◌, ◌<◌, length, get_or, replicate, Result as Answer, Ok, Err, IfOk}
 use Rattle.model.specs.Limits.{max_nodes, max_len}
 use Rattle.model.specs.Result.{Result, ok, refused, and_then}
+use Rattle.model.specs.Answers.{number_of, answer}
 use Rattle.model.specs.Text.{Bytes, parts, line_end}
 use Rattle.model.specs.Network.{Network as ModelNetwork, at, total_bits, steers, steering_bits}
 use Rattle.model.specs.Path.{path_in, path_length}
 use Rattle.model.specs.NetworkText.{Draft, no_lines, line_of, add_line, read_lines, finish, read_network}
+use Rattle.model.specs.declared.refusal.Refusal.{Refusal}
 use Rattle.network_words.specs.Words.{word_width, word_bit, bits_word, known_word}
 use Rattle.network_path.specs.Layout.{nodes_of, config_of, node_fields, node_numbers}
 use Rattle.network_draft.specs.declared.store.Summary.{Summary}
-use Rattle.network_draft.specs.declared.add.Added.{Added}
-use Rattle.network_draft.specs.declared.add.Refusal.TheVariants.{Nothing, Refused}
-use Rattle.network_reader.specs.declared.reader.Lines.{Lines}
-use Rattle.network_reader.specs.declared.reader.Ending.{Ending}
-use Rattle.network_reader.specs.declared.reader.Ending.TheVariants.{Refused as EndRefused, Recorded}
+use Rattle.network_reader.specs.declared.reader.Filled.{Filled}
 use Rattle.network_reader.specs.declared.reader.Network.{Network}
-use Rattle.network_reader.specs.declared.reader.Acceptance.{Acceptance}
-use Rattle.network_reader.specs.declared.reader.Acceptance.TheVariants.{Accepted, Refused as Rejected}
-use Rattle.network_reader.specs.declared.reader.Reading.{Reading}
 use Rattle.network_draft.specs.Store.{Small}
 use Rattle.network_draft.specs.Numbers.{NodesStored, TargetsStored}
-use Rattle.network_draft.specs.Represents.{Arrays, arrays, Represents, Agrees, InLimits, targets_of, empty_summary}
+use Rattle.network_draft.specs.Represents.{Arrays, arrays, Represents, Agrees, InLimits, targets_of}
 use Rattle.network_reader.specs.Start.{StartFilled}
 
 -- ---- one line, and the lines in turn
 
 -- line n leaves the arrays b
-abbrev pub LineAdded : Arrays → Summary → Bytes → ℕ → Added → Arrays → Type 0
-LineAdded a t line n r b = (d : Draft) → Represents a t d n → Agrees (λ e. Represents b r.summary e (suc n)) (add_line max_len d n (line_of line)) r.refusal
+abbrev pub LineAdded : Arrays → Summary → Bytes → ℕ → Answer Summary Refusal → Arrays → Type 0
+LineAdded a t line n r b = (d : Draft) → Represents a t d n → Agrees (λ t' e. Represents b t' e (suc n)) (add_line max_len d n (line_of line)) r
 
-abbrev pub LinesAre : Arrays → Result (ℕ × Draft) → Lines → Type 0
-LinesAre a (ok nd) r = (r.refusal ≡ Nothing) × (r.next ≡ nd.0) × Represents a r.summary nd.1 nd.0
-LinesAre a (refused number place) r = r.refusal ≡ Refused number place
+-- what the model makes of the lines
+abbrev pub finish_of : Result (ℕ × Draft) → Result ModelNetwork
+finish_of a = and_then a (λ r. finish r.0 r.1 r.1.feeds)
 
-abbrev pub LinesRead : Bytes → Lines → Arrays → Type 0
-LinesRead t r a = LinesAre a (read_lines max_len no_lines 1 (parts line_end t)) r
+-- the lines, an `out` line among them, leave this draft in the arrays
+pub record Lined (t : Bytes) (a : Arrays) (y : Summary) : Type 0 where
+  pub draft : Draft
+  pub next : ℕ
+  pub lines : read_lines max_len no_lines 1 (parts line_end t) ≡ ok (next, draft)
+  pub represented : Represents a y draft next
+  pub fed : y.has_out ≡ true
+
+abbrev pub LinesRead : Bytes → Answer Summary Refusal → Arrays → Type 0
+LinesRead t (Ok y) a = Lined t a y
+LinesRead t (Err r) a = finish_of (read_lines max_len no_lines 1 (parts line_end t)) ≡ refused (number_of r.kind) r.place
 
 -- ---- the record
 
@@ -47,14 +51,6 @@ recorded_network r = record {
   start = config_of r.nodes r.bits r.known r.summary.count;
   targets = targets_of r.nodes r.summary;
 }
-
--- number and place of a refusal, or the network
-abbrev pub reading_by : Acceptance → Network → Result ModelNetwork
-reading_by Accepted r = ok (recorded_network r)
-reading_by (Rejected number place) r = refused number place
-
-abbrev pub reading_of : Reading → Result ModelNetwork
-reading_of r = reading_by r.verdict r.network
 
 -- what an accepted record has besides: the sizes of the arrays, each number of a node, each word and each number of a target by
 -- the network, and three counts. Nothing of the record is free.
@@ -91,10 +87,14 @@ uncounted ns bits known steering t = record { nodes = ns; bits = bits; known = k
 abbrev pub record_of : Uncounted → ℕ → ℕ → Network
 record_of u count len = record { nodes = u.nodes; bits = u.bits; known = u.known; steering = u.steering; summary = u.summary; steering_count = count; start_length = len }
 
--- an ending that agrees with the model's: the refusal, or the counts of the record
-abbrev pub EndsAs : Uncounted → Result ModelNetwork → Ending → Type 0
-EndsAs u a (EndRefused number place) = a ≡ refused number place
-EndsAs u a (Recorded count len) = (a ≡ ok (recorded_network (record_of u count len))) × RecordComplete (record_of u count len)
+-- the record of the arrays and of what a text leaves beside them
+abbrev pub filled_record : List ℕ → List ℕ → List ℕ → List ℕ → Filled → Network
+filled_record ns bits known steering f = record_of (uncounted ns bits known steering f.summary) f.steering_count f.start_length
+
+-- an answer that agrees with the model's: the refusal, or the record's other parts
+pub record EndsAs (ns bits known steering : List ℕ) (x : Result ModelNetwork) (r : Answer Filled Refusal) : Type 0 where
+  pub reads : answer (λ f. recorded_network (filled_record ns bits known steering f)) r ≡ x
+  pub filled : IfOk r (λ f. RecordComplete (filled_record ns bits known steering f))
 
 -- behind the lines, which have an `out` line, the start bits are filled
 pub record Begun (u : Uncounted) (d : Draft) (n : ℕ) : Type 0 where
@@ -105,15 +105,8 @@ pub record Begun (u : Uncounted) (d : Draft) (n : ℕ) : Type 0 where
   pub fed : u.summary.has_out ≡ true
   pub filled : StartFilled (arrays u.nodes bits₀ known₀ u.steering held) u.summary.count u.bits u.known
 
-abbrev pub StartWalked : Uncounted → Ending → Type 0
-StartWalked u r = (d : Draft) (n : ℕ) → Begun u d n → EndsAs u (finish n d d.feeds) r
-
-abbrev pub finish_of : Result (ℕ × Draft) → Result ModelNetwork
-finish_of a = and_then a (λ r. finish r.0 r.1 r.1.feeds)
-
-abbrev pub LinesFinished : Arrays → Lines → Ending → List ℕ → List ℕ → Type 0
-LinesFinished a l r bits known =
-    (x : Result (ℕ × Draft)) → LinesAre a x l → EndsAs (uncounted a.nodes bits known a.steering l.summary) (finish_of x) r
+abbrev pub StartWalked : Uncounted → Answer Filled Refusal → Type 0
+StartWalked u r = (d : Draft) (n : ℕ) → Begun u d n → EndsAs u.nodes u.bits u.known u.steering (finish n d d.feeds) r
 
 -- ---- the whole text
 
@@ -124,14 +117,7 @@ pub record AllZero (ns bits known steering : List ℕ) : Type 0 where
   pub known_are : known ≡ replicate node_numbers 0
   pub steering_are : steering ≡ replicate node_numbers 0
 
--- the record beside a refusal
-abbrev pub no_network : Network
-no_network = record { nodes = replicate node_fields 0; bits = replicate node_numbers 0; known = replicate node_numbers 0; steering = replicate node_numbers 0; summary = empty_summary; steering_count = 0; start_length = 0 }
-
-abbrev pub RecordCompleteIf : Acceptance → Network → Type 0
-RecordCompleteIf Accepted r = RecordComplete r
-RecordCompleteIf (Rejected number place) r = r ≡ no_network
-
-pub record IsReading (t : Bytes) (r : Reading) : Type 0 where
-  pub reads : reading_of r ≡ read_network t
-  pub filled : RecordCompleteIf r.verdict r.network
+-- the record, or number and place of the refusal
+pub record IsReading (t : Bytes) (r : Answer Network Refusal) : Type 0 where
+  pub reads : answer recorded_network r ≡ read_network t
+  pub filled : IfOk r RecordComplete

@@ -14,10 +14,8 @@ fn steering_in(word: Word, len: usize) -> usize
     ensures { (result ≡ count_in word 0 len) × (result ≤ len) }
 {
     let mut sum: usize = 0;
-    let mut b: usize = 0;
-    while b < len {
+    for b in 0..len {
         sum += bit_at(word, b);
-        b += 1;
     }
     sum
 }
@@ -28,10 +26,8 @@ pub fn steering_count<'a>(nodes: &'a Nodes, steering: &'a Words, count: usize) -
     ensures { result ≡ count_from nodes.now steering.now 1 count }
 {
     let mut sum: usize = 0;
-    let mut s: usize = 1;
-    while s <= count {
+    for s in 1..=count {
         sum += steering_in(steering[s], segment_len(nodes, s));
-        s += 1;
     }
     sum
 }

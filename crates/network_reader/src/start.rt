@@ -56,9 +56,7 @@ pub fn fill_start<'a>(
     requires { (count ≤ max_nodes) × Short nodes.now count × (length bits.old ≡ node_numbers) × (length known.old ≡ node_numbers) }
     ensures { StartFilled (arrays nodes.now bits.old known.old steering.now held.now) count bits.new known.new }
 {
-    let mut s: usize = 1;
-    while s <= count {
+    for s in 1..=count {
         fill_one(nodes, bits, known, steering, held, s);
-        s += 1;
     }
 }

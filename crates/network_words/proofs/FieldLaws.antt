@@ -2,15 +2,15 @@
 -- Assumes nothing.
 use mathlib.Core.Path.{◌≡◌, refl, sym, ap, ◌∙◌}
 use mathlib.Core.Bool.{Bool, true, false, cond, not}
-use mathlib.Core.Option.{Option, none, some}
+use Rattle.std.specs.Prelude.{Option, None as none, Some as some}
 use mathlib.Core.List.{List, [], ◌∷◌}
 use Prim.Native.Nat.{ℕ, suc, ◌+◌, ◌*◌, ◌^◌, ◌<◌, ◌≤◌}
-use native.Mathlib.Nat.{add-suc, add-zero, suc-add, zero-add, lt_of_lt_of_le}
+use native.Mathlib.Nat.{add-suc, add-zero, suc-add, zero-add}
 use native.Mathlib.Numerals.{add-one}
 use native.Mathlib.Omega.{arith}
 use lib.Dec.{eqb}
 use lib.ListN.{length, get_or, drop, drop_of_length-le}
-use lib.Pow.{pow-add, pow_mono}
+use lib.Pow.{pow-add}
 use lib.Seq.{drop-cons}
 use borrow.Author.Tests.{ne_eqb}
 use Rattle.model.specs.Network.{tabulate}
@@ -27,9 +27,6 @@ module _ (test : ℕ → Bool) (f : List ℕ) where
     pub small : w < 2 ^ i
     pub whole : word_from test w (drop i f) ≡ word_from test 0 f
 
-  pub reads_none : Reads 0 0
-  reads_none = record { small = omega arith; whole = refl }
-
   pub reads_more : (i w b r : ℕ) → i < length f → b ≡ bit_value (test (get_or f i 0)) → r ≡ b + 2 * w → Reads i w → Reads (i + 1) r
   unfolding word_from
   reads_more i w b r l e q h =
@@ -44,9 +41,6 @@ module _ (test : ℕ → Bool) (f : List ℕ) where
   pub reads_all : (i w : ℕ) → length f ≤ i → Reads i w → w ≡ word_from test 0 f
   unfolding word_from
   reads_all i w l h = ap (word_from test w) (sym (drop_of_length-le f l)) ∙ h.whole
-
-  pub reads_small : (i w k : ℕ) → Reads i w → i ≤ k → w < 2 ^ k
-  reads_small i w k h l = lt_of_lt_of_le h.small (pow_mono l)
 
 -- ---- the bits that the words have
 

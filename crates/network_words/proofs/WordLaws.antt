@@ -2,10 +2,10 @@
 -- Assumes nothing.
 use mathlib.Core.Path.{◌≡◌, refl, sym, ap, subst, ◌∙◌}
 use mathlib.Core.Bool.{Bool, true, false, cond}
-use mathlib.Core.Option.{none, some}
+use Rattle.std.specs.Prelude.{None as none, Some as some}
 use mathlib.Core.List.{List, [], ◌∷◌, ◌++◌, map}
 use Prim.Native.Nat.{ℕ, zero, suc, ◌+◌, ◌-◌, ◌*◌, ◌/◌, ◌%◌, ◌^◌, ◌<◌, ◌≤◌}
-use native.Mathlib.Nat.{mul_assoc, add-mul, pow-suc, div-one, zero-div, sub_self, zero-add}
+use native.Mathlib.Nat.{mul_assoc, add-mul, pow-suc, div-one, zero-div, zero-add}
 use native.Mathlib.Numerals.{add-one, one-add}
 use native.Mathlib.Omega.{arith}
 use borrow.Author.Tests.{eqb-true, eqb-false, eq-eqb, ne_eqb}
@@ -14,7 +14,7 @@ use lib.Bits.{bit_and, bit_or, and_mask, or_shifted, or_shifted_r, shifted_half}
 use lib.Dec.{eqb}
 use lib.ListN.{length, get_or, take, replicate, length-map, get_or-map}
 use lib.Pow.{pow-add, pow_pos, shl_exact, shr_lt, shr-shr, high, ones_lt, ones_split}
-use lib.Seq.{take-suc, length-take-le, take_all}
+use lib.Seq.{take-suc, length-take-le}
 use Rattle.model.specs.Network.{tabulate}
 use Rattle.model.specs.Path.{bit_value}
 use Rattle.model.proofs.Lists.{tabulate_cong}
@@ -121,10 +121,6 @@ shifted_byte len w i r b part hp hi e q p =
     let bs = map byte_bit part in
     q ∙ ap (shift_in len w) (e ∙ ap bit_value (sym (get_or-map byte_bit part i 0)))
     ∙ shifted_more len w i bs hi (omega (arith, length-map part byte_bit)) p
-
-pub shifted_all : (len w : ℕ) (bs : List Bool) → length bs ≡ len → Shifted len w bs len → w ≡ word_of_bits bs
-shifted_all len w bs h p =
-    p ∙ ap (λ (m : ℕ). word_of_bits (take len bs) * 2 ^ m) (sub_self len) ∙ omega arith ∙ ap word_of_bits (take_all len bs (omega arith))
 
 -- ---- the bits of a word
 

@@ -1,7 +1,7 @@
 -- Words of a segment's bits by numbers: "two words a segment, bits and known marks".
 -- Assumes nothing.
 use Rattle.std.specs.Prelude.{Bool, true, false, cond, not, List, [], ◌∷◌, map, ℕ, ◌+◌, ◌-◌, ◌*◌, ◌/◌, ◌%◌, ◌^◌, eqb}
-use Rattle.std.proofs.Math.Option.{none, some}
+use Rattle.std.specs.Prelude.{None as none, Some as some}
 use Rattle.model.specs.Text.{Bytes, Trit}
 use Rattle.model.specs.Network.{tabulate}
 use Rattle.model.specs.Path.{bit_value}

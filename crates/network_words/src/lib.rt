@@ -9,49 +9,36 @@ ghost use Rattle.network_words.specs.Words.{word_width, word_bit, byte_bit, shif
 pub type Word = u64;
 
 // A word of known marks with every bit known.
-pub const ALL_KNOWN: Word = !0;
+pub const ALL_KNOWN: Word = Word::MAX;
 
-// The bits of a word. ALL_KNOWN / 255 is 1 in each byte, and modulo 255 it is the count of bytes.
-pub const WORD_BITS: usize = (ALL_KNOWN / 255 % 255 * 8) as usize;
-
-// A place of a word, as the count of a shift.
-fn shift_to(i: usize) -> Word
-    requires { i < word_width }
-    ensures { result ≡ i }
-{
-    i as Word
-}
-
-// A word as an index.
-fn as_index(w: Word) -> usize
-    ensures { result ≡ w }
-{
-    w as usize
-}
+// The bits of a word.
+pub const WORD_BITS: usize = Word::BITS as usize;
 
 // The word whose only bit is i.
+#[tactic(auto, using(crate::proofs::WordLaws::only_place))]
 pub fn only_bit(i: usize) -> Word
     requires { i < word_width }
     ensures { result ≡ 2 ^ i }
 {
-    let one: Word = 1;
-    one << shift_to(i)
+    1 << i
 }
 
 // Bit i of a word.
+#[tactic(auto, using(crate::proofs::WordLaws::bit_mask))]
 pub fn bit_at(w: Word, i: usize) -> usize
     requires { i < word_width }
     ensures { result ≡ bit_value (word_bit w i) }
 {
-    as_index((w >> shift_to(i)) & 1)
+    ((w >> i) & 1) as usize
 }
 
 // Bits i and i + 1 of a word, as a number below 4.
+#[tactic(auto, using(crate::proofs::WordLaws::pair_mask))]
 pub fn pair_at(w: Word, i: usize) -> usize
     requires { i < word_width }
     ensures { result ≡ bit_value (word_bit w i) + 2 * bit_value (word_bit w (suc i)) }
 {
-    as_index((w >> shift_to(i)) & 3)
+    ((w >> i) & 3) as usize
 }
 
 // The word of len bits with b shifted in at the top, and the lowest bit gone.
@@ -59,14 +46,14 @@ pub fn shifted_in(w: Word, b: Word, len: usize) -> Word
     requires { (b < 2) × ((1 ≤ len) × ((len ≤ word_width) × (w < 2 ^ len))) }
     ensures { (result ≡ shift_in len w b) × (result < 2 ^ len) }
 {
-    (w >> 1) | (b << shift_to(len - 1))
+    (w >> 1) | (b << (len - 1))
 }
 
 // The bit that a byte `0` or `1` stands for.
 fn bit_of(b: u8) -> Word
     ensures { result ≡ bit_value (byte_bit b) }
 {
-    if b == b'1' { 1 } else { 0 }
+    Word::from(b == b'1')
 }
 
 // The word after the bits of part are shifted in, one place each: bit j is the j-th bit of part.
@@ -75,11 +62,8 @@ pub fn loaded(part: &[u8], len: usize) -> Word
     ensures { result ≡ word_of_bits (map byte_bit part.now) }
 {
     let mut w: Word = 0;
-    let mut i: usize = 0;
-    while i < len {
-        let b = bit_of(part[i]);
-        w = shifted_in(w, b, len);
-        i += 1;
+    for b in part {
+        w = shifted_in(w, bit_of(*b), len);
     }
     w
 }
@@ -88,7 +72,7 @@ pub fn loaded(part: &[u8], len: usize) -> Word
 fn mark_of(b: u8) -> Word
     ensures { result ≡ bit_value (byte_known b) }
 {
-    if b == b'X' { 0 } else { 1 }
+    Word::from(b != b'X')
 }
 
 // The word with all bits one place higher and b as its lowest bit.
@@ -100,7 +84,7 @@ fn with_low(w: Word, b: Word) -> Word
 }
 
 // A segment's two words.
-#[derive(Drop)]
+#[derive(Clone, Copy)]
 pub struct SegmentWords {
     pub bits: Word,
     pub known: Word,
@@ -113,12 +97,9 @@ pub fn words_of(f: &[u8]) -> SegmentWords
 {
     let mut bits: Word = 0;
     let mut known: Word = 0;
-    let mut i: usize = 0;
-    while i < f.len() {
-        let x = f[i];
-        bits = with_low(bits, bit_of(x));
-        known = with_low(known, mark_of(x));
-        i += 1;
+    for x in f {
+        bits = with_low(bits, bit_of(*x));
+        known = with_low(known, mark_of(*x));
     }
     SegmentWords { bits, known }
 }

@@ -3,28 +3,21 @@
 
 use model::limits::MAX_NETWORK_BYTES;
 use plan_answer::{ROOM, print_plan};
-use program_io::finish::answer;
-use program_io::input::read_text;
 use program_io::start::begin;
 
+const USAGE: &str = "usage: plan [NETWORK]\n\
+    NETWORK is the file of a network text, - or nothing for standard input.\n\
+    Prints the plan text, or fail, number, place.\n";
+
 fn main(rt: HostRuntime) {
-    let name = b"plan";
-    let call = begin(
-        &rt,
-        name,
-        b"usage: plan [NETWORK]\n\
-          NETWORK is the file of a network text, - or nothing for standard input.\n\
-          Prints the plan text, or fail, number, place.\n",
-        0,
-        1,
-    );
-    let mut text = [0u8; MAX_NETWORK_BYTES + 1];
-    let input = read_text(&rt, name, call.runs, call.reports, call.first, &mut text);
-    if !input.is_read {
+    let Some(call) = begin(&rt, "plan", USAGE, 0, 1) else {
         return;
-    }
-    let n = input.count;
+    };
+    let mut text = [0u8; MAX_NETWORK_BYTES + 1];
+    let Some(n) = call.read_text(call.first, &mut text) else {
+        return;
+    };
     let mut out = [0u8; ROOM];
     let end = print_plan(&text[..n], &mut out);
-    answer(&rt, name, call.reports, &out[..end]);
+    call.answer(&out[..end]);
 }

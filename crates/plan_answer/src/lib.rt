@@ -7,7 +7,6 @@ ghost use Rattle.program_text.specs.Printing.{PrintedTo};
 
 use model::limits::{MAX_PLAN_BYTES, SEARCH_SIZE};
 use planner::make_plan;
-use planner_text::Planned;
 use program_lines::put_refusal;
 
 // Room for the longest plan text. The line of a refusal is shorter.
@@ -19,9 +18,8 @@ pub fn print_plan(network: &[u8], out: &mut [u8; ROOM]) -> usize
     ensures prefix_len { IsPrefixLen result out.new }
 {
     let mut search = [0u16; SEARCH_SIZE];
-    let planned = make_plan(network, &mut search, out);
-    match planned {
-        Planned::Written(n) => n,
-        Planned::Refused(number, place) => put_refusal(out, number, place),
+    match make_plan(network, &mut search, out) {
+        Ok(n) => n,
+        Err(refusal) => put_refusal(out, refusal),
     }
 }

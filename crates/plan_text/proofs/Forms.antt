@@ -2,7 +2,7 @@
 -- Assumes nothing.
 use mathlib.Core.Path.{◌≡◌, refl, sym, ap, ◌∙◌}
 use mathlib.Core.Bool.{Bool}
-use mathlib.Core.Option.{Option, none, some}
+use Rattle.std.specs.Prelude.{Option, None as none, Some as some}
 use mathlib.Core.List.{List, [], ◌∷◌, ◌++◌}
 use Prim.Native.Nat.{ℕ, suc, ◌+◌, ◌≤◌, ◌<◌}
 use native.Mathlib.Omega.{arith}
@@ -10,6 +10,9 @@ use native.Mathlib.Numerals.{add-one}
 use lib.ListN.{length, drop, drop_of_length-le, length-drop}
 use lib.Seq.{drop-drop}
 use borrow.Author.Tests.{lt-ltb, le-ltb}
+use Rattle.std.specs.Prelude.{Result as Answer, Ok, Err}
+use Rattle.model.specs.declared.refusal.Refusal.{Refusal}
+use Rattle.model.specs.Answers.{number_of, count_of}
 use Rattle.model.specs.Result.{Result, ok, refused, and_then}
 use Rattle.model.specs.Text.{Bytes, bind, line_end, parts}
 use Rattle.model.specs.Plan.{Plan}
@@ -19,9 +22,7 @@ use Rattle.model.proofs.Lists.{none_some, some_same, not_ok, ok_is, refusal_numb
 use Rattle.model.proofs.LineForms.{bound}
 use Rattle.model.proofs.PlanTexts.{joined, parts_more, parts_joined, parts_line, csu_bytes, csu_free, csu_written, csu_bytes_law, text_of}
 use Rattle.plan_text.specs.Lines.{first_line, next_from}
-use Rattle.plan_text.specs.declared.Form.{Form}
-use Rattle.plan_text.specs.declared.Form.TheVariants.{Good, Refused}
-use Rattle.plan_text.specs.Form.{form_of, plan_form}
+use Rattle.plan_text.specs.Form.{plan_form}
 use Rattle.plan_text.proofs.Lines.{first_written, first_text, first_room}
 
 -- ---- the lines from number n on
@@ -144,16 +145,16 @@ pub record GoodText (t : Bytes) (lines : ℕ) : Type 0 where
   pub count : length plan ≡ lines
   pub few : lines ≤ 16
 
-pub form_good : (t : Bytes) (r : Form) (lines : ℕ) → form_of r ≡ plan_form t → r ≡ Good lines → GoodText t lines
+pub form_good : (t : Bytes) (r : Answer ℕ Refusal) (lines : ℕ) → count_of r ≡ plan_form t → r ≡ Ok lines → GoodText t lines
 form_good t r lines e g =
-    let h = handed (read_plan t) (λ plan. ok (length plan)) lines (sym e ∙ ap form_of g) in
+    let h = handed (read_plan t) (λ plan. ok (length plan)) lines (sym e ∙ ap count_of g) in
     let w = text_of t h.value h.given in
     let n = ok_is h.then in
     record { plan = h.value; reads = h.given; text = w.text; count = n; few = omega (arith, w.few) }
 
-pub form_refused : (t : Bytes) (r : Form) (place : ℕ) → form_of r ≡ plan_form t → r ≡ Refused place → read_plan t ≡ refused 14 place
-form_refused t r place e g = go (read_plan t) (sym e ∙ ap form_of g)
+pub form_refused : (t : Bytes) (r : Answer ℕ Refusal) (why : Refusal) → count_of r ≡ plan_form t → r ≡ Err why → read_plan t ≡ refused (number_of why.kind) why.place
+form_refused t r why e g = go (read_plan t) (sym e ∙ ap count_of g)
   where
-    go : (x : Result Plan) → and_then x (λ plan. ok (length plan)) ≡ refused 14 place → x ≡ refused 14 place
+    go : (x : Result Plan) → and_then x (λ plan. ok (length plan)) ≡ refused (number_of why.kind) why.place → x ≡ refused (number_of why.kind) why.place
     go (ok plan) q = absurd (not_ok (sym q))
     go (refused number at) q = rw (refusal_number q, refusal_place q)

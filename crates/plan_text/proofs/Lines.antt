@@ -2,21 +2,22 @@
 -- Assumes nothing.
 use mathlib.Core.Path.{◌≡◌, refl, sym, ap, ◌∙◌}
 use mathlib.Core.Bool.{Bool, true, false, cond}
-use mathlib.Core.Option.{none, some}
+use Rattle.std.specs.Prelude.{None as none, Some as some}
 use mathlib.Core.List.{List, [], ◌∷◌, ◌++◌, map, append_assoc}
 use Prim.Native.Nat.{ℕ, suc, ◌+◌, ◌-◌, ◌≤◌, ◌<◌}
 use native.Mathlib.Omega.{arith}
-use lib.ListN.{length, take, drop, get_or, take-append-drop, length-append, length-map, length-take, length-drop, get_or-eq_default}
-use lib.Seq.{drop-cons, drop-drop, drop_at, get_or_at, get_or-drop}
+use lib.ListN.{length, take, drop, get_or, take-append-drop, length-append, length-map, length-drop, get_or-eq_default}
+use lib.Seq.{drop-cons, drop-drop, drop_at, get_or_at, get_or-drop, take_all}
 use lib.Dec.{eqb, ltb}
-use borrow.Author.Tests.{eqb-true, ltb-true, ltb-false, eq-eqb, ne_eqb}
-use Rattle.model.specs.Text.{Bytes, bytes, line_end, same}
+use Rattle.std.specs.List.{starts_with}
+use borrow.Author.Tests.{eqb-true, ltb-true, ltb-false}
+use Rattle.model.specs.Text.{Bytes, bytes, bind, line_end, same}
 use Rattle.model.specs.Plan.{Plan}
 use Rattle.model.specs.PlanText.{write_plan}
 use Rattle.model.specs.Tap.{bit_byte}
 use Rattle.model.proofs.Lists.{none_some, some_same}
 use Rattle.model.proofs.PlanTexts.{csu_bytes, same_is, length_line}
-use Rattle.text.proofs.Words.{same_length}
+use Rattle.text.proofs.Words.{same_turned}
 use Rattle.plan_text.specs.Lines.{bit_run, ended, first_line, next_from}
 use Rattle.plan_text.proofs.Bits.{run_front, run_written}
 
@@ -66,49 +67,29 @@ first_room t bs e =
     let u = drop (5 + length bs) t in
     omega (arith, ap length (first_text t bs e), length-append (map bit_byte bs) (line_end ∷ u), length-map bs bit_byte)
 
--- ---- the line from a place on, test by test
+-- ---- the line from a place on, by the code's tests
 
-module _ (t : Bytes) (at : ℕ) where
-  by_word : (x : Bool) → same (take 4 (drop at t)) (bytes "csu\t") ≡ x → first_line (drop at t) ≡ cond x (ended (drop 4 (drop at t))) none
+module _ (t : Bytes) (at : ℕ) (x : Bool) (word : x ≡ starts_with eqb (take (length t - at) (drop at t)) (bytes "csu\t")) where
+  by_word : first_line (drop at t) ≡ cond x (ended (drop 4 (drop at t))) none
   unfolding first_line
-  by_word x e = ap (λ (y : Bool). cond y (ended (drop 4 (drop at t))) none) e
+  by_word =
+      let whole : take (length t - at) (drop at t) ≡ drop at t = take_all (length t - at) (drop at t) (omega (arith, length-drop at t)) in
+      ap (λ (y : Bool). cond y (ended (drop 4 (drop at t))) none)
+      (same_turned (take 4 (drop at t)) (bytes "csu\t") ∙ sym (rw whole at word))
 
-  no_line : first_line (drop at t) ≡ none → none ≡ next_from t at
-  no_line e = rw e
+  pub next_other : x ≡ false → none ≡ next_from t at
+  next_other e = rw (by_word, e)
 
-  pub next_short : length t - at < 4 → none ≡ next_from t at
-  next_short h =
-      let n : length (take 4 (drop at t)) < 4 = omega (arith, length-take 4 (drop at t), length-drop at t) in
-      no_line (by_word false (same_length (take 4 (drop at t)) (bytes "csu\t") (λ e. omega arith)))
-
-  module _ (start : ℕ) (four : start ≡ at + 4) where
-    word : (x : Bool) → x ≡ same (take (start - at) (drop at t)) (bytes "csu\t") → first_line (drop at t) ≡ cond x (ended (drop 4 (drop at t))) none
-    word x e =
-        let n : start - at ≡ 4 = omega arith in
-        by_word x (sym (e ∙ ap (λ (k : ℕ). same (take k (drop at t)) (bytes "csu\t")) n))
-
-    pub next_word : (x : Bool) → x ≡ same (take (start - at) (drop at t)) (bytes "csu\t") → x ≡ false → none ≡ next_from t at
-    next_word x e f = no_line (word x e ∙ ap (λ (y : Bool). cond y (ended (drop 4 (drop at t))) none) f)
-
-    module _ (x : Bool) (e : x ≡ same (take (start - at) (drop at t)) (bytes "csu\t")) (good : x ≡ true)
-        (end : ℕ) (is : end ≡ start + length (bit_run (drop start t))) where
-      -- the test of the byte behind the bits
-      by_end : (y : Bool) → eqb (get_or t end 0) line_end ≡ y → first_line (drop at t) ≡ cond y (some (bit_run (drop start t))) none
-      by_end y f =
-          let u : drop 4 (drop at t) ≡ drop start t = drop-drop 4 at t ∙ ap (λ (k : ℕ). drop k t) (sym four) in
-          let b : get_or (drop start t) (length (bit_run (drop start t))) 0 ≡ get_or t end 0 = get_or-drop start t _ 0 ∙ ap (λ (k : ℕ). get_or t k 0) (sym is) in
-          word x e ∙ rw (good, u, b, f)
-
-      pub next_other : (get_or t end 0 ≡ line_end → ⊥) → none ≡ next_from t at
-      next_other h = no_line (by_end false (ne_eqb _ _ h))
-
-      pub next_unended : end ≡ length t → none ≡ next_from t at
-      next_unended h =
-          let z : get_or t end 0 ≡ 0 = get_or-eq_default t 0 (omega arith) in
-          next_other (λ q. omega arith)
-
-      pub next_good : get_or t end 0 ≡ line_end → some (end + 1) ≡ next_from t at
-      next_good h = rw (by_end true (eq-eqb _ _ h)) (ap some (omega arith))
+  -- the test of the byte behind the bits
+  pub next_by_end : (end : ℕ) → end ≡ at + 4 + length (bit_run (drop (at + 4) t)) → x ≡ true → cond (eqb (get_or t end 0) line_end) (some (end + 1)) none ≡ next_from t at
+  next_by_end end is e =
+      let u : drop 4 (drop at t) ≡ drop (at + 4) t = drop-drop 4 at t in
+      let b : get_or (drop (at + 4) t) (length (bit_run (drop (at + 4) t))) 0 ≡ get_or t end 0 = get_or-drop (at + 4) t _ 0 ∙ ap (λ (k : ℕ). get_or t k 0) (sym is) in
+      rw (by_word, e, u, b) (go (eqb (get_or t end 0) line_end))
+    where
+      go : (y : Bool) → cond y (some (end + 1)) none ≡ bind (cond y (some (bit_run (drop (at + 4) t))) none) (λ bs. some (at + (5 + length bs)))
+      go true = ap some (omega arith)
+      go false = refl
 
 -- ---- a plan's lines from a place on, for loops over a text of good form
 

@@ -8,8 +8,8 @@ use Prim.Native.Nat.{ℕ, suc, ◌+◌, ◌≤◌, ◌<◌}
 use native.Mathlib.Omega.{arith}
 use native.Mathlib.Nat.{add-zero, zero-add}
 use native.Mathlib.Numerals.{add-one}
-use lib.ListN.{length, take, drop, set, get_or, replicate, length-append, length-drop, length-replicate, take-append-drop, replicate-append-replicate, get_or-append}
-use lib.Seq.{length-take-le, take-suc, drop-cons, drop-drop, set_at, take_at, drop_at, take_all, get_or-append-add, get_or-take, get_or-drop, ext_get_or}
+use lib.ListN.{length, take, drop, set, get_or, length-append, length-drop, take-append-drop, get_or-append}
+use lib.Seq.{length-take-le, take-suc, drop-cons, drop-drop, set_at, take_at, drop_at, get_or-append-add, get_or-take, get_or-drop, ext_get_or}
 use Rattle.model.specs.Plan.{Plan}
 use Rattle.model.specs.PlanText.{write_plan}
 use Rattle.model.specs.Tap.{bit_byte}
@@ -107,18 +107,6 @@ module _ (at i : ℕ) (old b : List ℕ) where
       let n : length (take i new) ≡ i = length-take-le i new (omega arith) in
       let m = write_more at (take i new) old (omega arith) (get_or new i 0) in
       rw (add-one, take-suc new i 0 h, e) (rw n at m)
-
-  pub put_done : (new : List ℕ) → length new ≤ i → b ≡ write_at at (take i new) old → b ≡ write_at at new old
-  put_done new h e = e ∙ ap (λ (l : List ℕ). write_at at l old) (take_all i new h)
-
-  pub fill_next : (v n : ℕ) → at + n ≤ length old → i < n → b ≡ write_at at (replicate i v) old → set b (at + i) v ≡ write_at at (replicate (i + 1) v) old
-  fill_next v n fits h e =
-      let k : length (replicate i v) ≡ i = length-replicate i v in
-      let m = write_more at (replicate i v) old (omega arith) v in
-      rw (← replicate-append-replicate i 1 v, e) (rw k at m)
-
-  pub fill_done : (v n : ℕ) → i ≤ n → n ≤ i → b ≡ write_at at (replicate i v) old → b ≡ write_at at (replicate n v) old
-  fill_done v n l m e = e ∙ ap (λ (k : ℕ). write_at at (replicate k v) old) (let q : i ≡ n = omega arith in q)
 
 -- ---- from the front of a buffer on
 

@@ -1,10 +1,8 @@
 -- A line of a plan text by its place.
 -- Assumes nothing.
 use Rattle.std.specs.Prelude.{Bool, cond, List, [], ◌∷◌, ℕ, ◌+◌, length, take, drop, get_or, eqb}
-use Rattle.std.proofs.Math.Option.{Option, none, some}
+use Rattle.std.specs.Prelude.{Option, None as none, Some as some}
 use Rattle.model.specs.Text.{Bytes, bytes, bind, line_end, same, bit}
-use Rattle.plan_text.specs.declared.Line.{Line}
-use Rattle.plan_text.specs.declared.Line.TheVariants.{Next, Bad}
 
 abbrev pub or_stop : Option Bool → List Bool → List Bool
 or_stop none bs = []
@@ -26,7 +24,3 @@ first_line t = cond (same (take 4 t) (bytes "csu\t")) (ended (drop 4 t)) none
 -- the place behind the line that starts at a place, if that has good form
 abbrev pub next_from : Bytes → ℕ → Option ℕ
 next_from t at = bind (first_line (drop at t)) (λ bs. some (at + (5 + length bs)))
-
-abbrev pub line_for : Line → Option ℕ
-line_for (Next place) = some place
-line_for Bad = none

@@ -3,25 +3,13 @@
 
 ghost use Rattle.std.specs.Prelude.{◌≡◌, map, ◌+◌, ◌≤◌, length, drop, replicate};
 ghost use Rattle.model.specs.Tap.{bit_byte};
-ghost use Rattle.plan_text.specs.Form.{form_of, plan_form};
-ghost use Rattle.plan_text.specs.Lines.{bit_run, line_for, next_from};
+ghost use Rattle.model.specs.Answers.{count_of};
+ghost use Rattle.plan_text.specs.Form.{plan_form};
+ghost use Rattle.plan_text.specs.Lines.{bit_run, next_from};
 ghost use Rattle.plan_text.specs.Writing.{write_at};
 
 use model::limits::{MAX_OPERATIONS, MAX_PLAN_BYTES};
-
-// The form of a plan text: the count of its lines, or the place of refusal 14.
-#[derive(Drop)]
-pub enum Form {
-    Good(usize),
-    Refused(usize),
-}
-
-// A line of good form by the place behind it, or bad form.
-#[derive(Drop)]
-enum Line {
-    Next(usize),
-    Bad,
-}
+use model::refusal::{Kind, Refusal};
 
 // The place of the first byte at or behind a place that is neither `0` nor `1`, or the length where there is none.
 pub fn bits_end(s: &[u8], at: usize) -> usize
@@ -31,49 +19,44 @@ pub fn bits_end(s: &[u8], at: usize) -> usize
     text_runs::run_end(s, at, b'1')
 }
 
-// The line that starts at a place.
-fn line_at(plan: &[u8], at: usize) -> Line
+// The place behind the line that starts at a place, if that has good form.
+fn line_at(plan: &[u8], at: usize) -> Option<usize>
     requires { at ≤ length plan.now }
-    ensures { line_for result ≡ next_from plan.now at }
+    ensures { result ≡ next_from plan.now at }
 {
-    if plan.len() - at < 4 {
-        return Line::Bad;
+    if !plan[at..].starts_with(b"csu\t") {
+        return None;
     }
     let bits = at + 4;
-    if !text::equal(&plan[at..bits], b"csu\t") {
-        return Line::Bad;
-    }
     let end = bits_end(plan, bits);
     if end == plan.len() {
-        return Line::Bad; // unended
+        return None; // unended
     }
     if plan[end] != b'\n' {
-        return Line::Bad;
+        return None;
     }
-    Line::Next(end + 1)
+    Some(end + 1)
 }
 
-// The form of a plan text, line by line.
-pub fn check_form(plan: &[u8]) -> Form
-    ensures { form_of result ≡ plan_form plan.now }
+// The form of a plan text, line by line: the count of its lines, or refusal 14 with its place.
+pub fn check_form(plan: &[u8]) -> Result<usize, Refusal>
+    ensures { count_of result ≡ plan_form plan.now }
 {
     if MAX_PLAN_BYTES < plan.len() {
-        return Form::Refused(0);
+        return Err(Kind::PlanForm.at(0));
     }
     let mut at: usize = 0;
     let mut n: usize = 0;
+    // A while, as the lines have different lengths.
     while at < plan.len() {
+        let refusal = Kind::PlanForm.at(n + 1);
         if n == MAX_OPERATIONS {
-            return Form::Refused(n + 1);
+            return Err(refusal);
         }
-        let line = line_at(plan, at);
-        let Line::Next(next) = line else {
-            return Form::Refused(n + 1);
-        };
-        at = next;
+        at = line_at(plan, at).ok_or(refusal)?;
         n += 1;
     }
-    Form::Good(n)
+    Ok(n)
 }
 
 // The line finder: the bits of the line that starts at a place, as a part of the plan text.
@@ -87,30 +70,25 @@ pub fn bits_at(plan: &[u8], at: usize) -> &[u8]
 }
 
 // Bytes written into a buffer from a place on; the place behind them.
+#[tactic(auto, unfolding(crate::specs::Writing::write_at))]
 pub fn put(buf: &mut [u8], at: usize, new: &[u8]) -> usize
     requires { at + length new.now ≤ length buf.old }
     ensures value { result ≡ at + length new.now }
     ensures buf_after { buf.new ≡ write_at at new.now buf.old }
 {
-    let n = new.len();
-    let mut i: usize = 0;
-    while i < n {
-        buf[at + i] = new[i];
-        i += 1;
-    }
-    at + n
+    let end = at + new.len();
+    buf[at..end].copy_from_slice(new);
+    end
 }
 
 // A byte written n times from a place on; the place behind them.
+#[tactic(auto, unfolding(crate::specs::Writing::write_at))]
 pub fn put_repeated(buf: &mut [u8], at: usize, byte: u8, n: usize) -> usize
     requires { at + n ≤ length buf.old }
     ensures value { result ≡ at + n }
     ensures buf_after { buf.new ≡ write_at at (replicate n byte) buf.old }
 {
-    let mut i: usize = 0;
-    while i < n {
-        buf[at + i] = byte;
-        i += 1;
-    }
-    at + n
+    let end = at + n;
+    buf[at..end].fill(byte);
+    end
 }

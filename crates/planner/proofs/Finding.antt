@@ -1,7 +1,7 @@
 -- What the search's answer says of the model's plan, and what the text asks of its choices.
 -- Assumes nothing.
 use mathlib.Core.Path.{◌≡◌, refl, sym, ap, ◌∙◌}
-use mathlib.Core.Option.{Option, none, some, map}
+use Rattle.std.specs.Prelude.{Option, None as none, Some as some, option_map}
 use mathlib.Core.List.{List, []}
 use Prim.Native.Nat.{ℕ, zero, suc, ◌+◌, ◌*◌, ◌≤◌}
 use native.Mathlib.Omega.{arith}
@@ -20,9 +20,7 @@ use Rattle.planner_theory.proofs.Least.{plan_length}
 use Rattle.planner_theory.proofs.SettingNumbers.{setting_small}
 use Rattle.planner_theory.proofs.SameSearch.{plan_is}
 use Rattle.planner_theory.proofs.Decoded.{plan_follows}
-use Rattle.planner_search.specs.declared.plan.Found.{Found}
-use Rattle.planner_search.specs.declared.plan.Found.TheVariants.{Operations, Nothing}
-use Rattle.planner_search.specs.Plans.{found_of, with_choices, PlanFound}
+use Rattle.planner_search.specs.Plans.{with_choices, PlanFound}
 use Rattle.planner_text.specs.Writing.{Picked}
 use Rattle.planner_text.proofs.WholeText.{choice_held}
 
@@ -49,33 +47,33 @@ module _ (net : Network) (a : Accepted net) (start : ℕ) (is : start ≡ number
   abbrev choices_found : Option (List ℕ)
   choices_found = plan_up_to (sys_of net) 16 (start * 16)
 
-  found_as : plan_for net ≡ map (decode net start) choices_found
+  found_as : plan_for net ≡ option_map (decode net start) choices_found
   found_as = rw is (plan_is net a)
 
-  pub found_nothing : {old out : List ℕ} {r : Found} → PlanFound net start old r out → r ≡ Nothing → plan_for net ≡ none
-  found_nothing f q = found_as ∙ ap (map (decode net start)) (go choices_found (sym f.answer ∙ q))
+  pub found_nothing : {old out : List ℕ} {r : Option ℕ} → PlanFound net start old r out → r ≡ none → plan_for net ≡ none
+  found_nothing f q = found_as ∙ ap (option_map (decode net start)) (go choices_found (sym f.answer ∙ q))
     where
-      go : (o : Option (List ℕ)) → found_of o ≡ Nothing → o ≡ none
+      go : (o : Option (List ℕ)) → option_map length o ≡ none → o ≡ none
       go none f = refl
-      go (some cs) f = absurd (let y : ◌≡◌ {A = ℕ} 0 1 = cc in omega arith)
+      go (some cs) f = cc
 
   pub record FoundPlan (picked : List ℕ) (n : ℕ) : Type 0 where
     pub cs : List ℕ
     pub plan_found : plan_for net ≡ some (decode net start cs)
     pub picks : Picked net start picked n cs
 
-  pub found_plan : {r : Found} (picked : List ℕ) (n : ℕ) → PlanFound net start (replicate 16 0) r picked → r ≡ Operations n → FoundPlan picked n
+  pub found_plan : {r : Option ℕ} (picked : List ℕ) (n : ℕ) → PlanFound net start (replicate 16 0) r picked → r ≡ some n → FoundPlan picked n
   found_plan picked n f q = go choices_found refl (sym f.answer ∙ q) f.left
     where
-      go : (o : Option (List ℕ)) → choices_found ≡ o → found_of o ≡ Operations n → picked ≡ with_choices o (replicate 16 0) → FoundPlan picked n
-      go none c f w = absurd (let y : ◌≡◌ {A = ℕ} 0 1 = cc in omega arith)
+      go : (o : Option (List ℕ)) → choices_found ≡ o → option_map length o ≡ some n → picked ≡ with_choices o (replicate 16 0) → FoundPlan picked n
+      go none c f w = cc
       go (some cs) c f w =
-          let long : length cs ≡ n = (let z : Operations (length cs) ≡ Operations n = f in cc) in
+          let long : length cs ≡ n = some_same (length cs) n f in
           let most = length_from (sys_of net) 0 16 (start * 16) cs c in
           let zeros = length-replicate {A = ℕ} 16 0 in
           record {
             cs = cs;
-            plan_found = found_as ∙ ap (map (decode net start)) c;
+            plan_found = found_as ∙ ap (option_map (decode net start)) c;
             picks = record {
               within = rw is (setting_small (steering_bits net.nodes) (bit_of net.start));
               follows = plan_follows net a 16 start cs c;

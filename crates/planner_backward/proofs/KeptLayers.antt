@@ -14,7 +14,7 @@ use Rattle.planner_theory.specs.Moves.{sys_of}
 use Rattle.planner_theory.specs.Layers.{can}
 use Rattle.planner_theory.proofs.Forward.{some_of_same, can_zero, can_step, useful_next}
 use Rattle.planner_table.specs.Table.{in_slot, layers_of, SlotKnown}
-use Rattle.planner_forward.specs.Spreading.{Met}
+use Rattle.planner_forward.specs.Spreading.{MetAt}
 use Rattle.planner_backward.specs.Keeping.{Filtered, enters, leads, Useful}
 use Rattle.planner_table.proofs.SlotLaws.{layer_slot, slot_same, slot_other}
 use Rattle.planner_backward.proofs.SetTests.{leads_last, leads_before}
@@ -35,7 +35,7 @@ module _ (net : Network) (start d : ℕ) (old : List ℕ) where
 
   -- ---- one layer more
 
-  module _ (i k : ℕ) (tab : List ℕ) (z : k ≡ i + 1) (most : k ≤ d) (few : d ≤ 16) (met : Met net start old d) (h : KeptDown net start d k old tab) where
+  module _ (i k : ℕ) (tab : List ℕ) (z : k ≡ i + 1) (most : k ≤ d) (few : d ≤ 16) (met : MetAt net start old d) (h : KeptDown net start d k old tab) where
     here : (s : ℕ) → in_slot tab i s ≡ in_slot old i s
     here s = slot_same old tab i s (λ less. h.before (i * 729 + s / 16) (omega arith))
 
@@ -45,9 +45,9 @@ module _ (net : Network) (start d : ℕ) (old : List ℕ) where
     -- what a choice leads to is kept where the rest of a plan can be done from it
     one : k < d → (s c : ℕ) → layers_of start old k s ≡ true → c < M.choices s → in_slot tab k (M.to s c) ≡ can M (d - suc k) (M.to s c)
     one lt s c e less =
-        let g = met.goal (omega arith) in
+        let g = met.goal in
         sym (layer_slot start tab k (suc k) (M.to s c) refl) ∙ h.kept (suc k) (M.to s c) (omega arith) lt
-        ∙ useful_next M start (layers_of start old) d g.0 (met.layers (omega arith)) g.1 g.2 k s c lt e less
+        ∙ useful_next M start (layers_of start old) d g.0 (met.layers) g.1 g.2 k s c lt e less
 
     can_enter : k < d → (s : ℕ) → layers_of start old k s ≡ true → enters net tab k s ≡ can M (d - k) s
     can_enter lt s e =

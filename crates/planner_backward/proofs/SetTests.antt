@@ -37,20 +37,6 @@ module _ (net : Network) (x full sets : ℕ) (all : full ≡ all_of net.targets)
   goal_other : (m : ℕ) → m < 16 → eqb m full ≡ false → (sys_of net).goal (x * 16 + m) ≡ false
   goal_other m lt e = goal_at m lt ∙ rw e (and_false_right (ltb 0 (count net x)))
 
-  -- all targets are not among the sets
-  pub goal_absent : word_bit sets full ≡ false → FilteredSets (sys_of net).goal x sets 0
-  goal_absent off m lt = zero_bit m ∙ by (eqb m full) refl
-    where
-      by : (t : Bool) → eqb m full ≡ t → false ≡ (word_bit sets m && (sys_of net).goal (x * 16 + m))
-      by true e = let z : m ≡ full = eqb-true m full e in rw z (rw off)
-      by false e = rw (goal_other m lt e) (sym (and_false_right (word_bit sets m)))
-
-  -- the setting is not valid
-  pub goal_stopped : count net x ≡ 0 → FilteredSets (sys_of net).goal x sets 0
-  goal_stopped z m lt =
-      let e : (sys_of net).goal (x * 16 + m) ≡ false = goal_at m lt ∙ rw z in
-      zero_bit m ∙ rw e (sym (and_false_right (word_bit sets m)))
-
   -- the goal is there
   pub goal_alone : full < 16 → word_bit sets full ≡ true → (count net x ≡ 0 → ⊥) → FilteredSets (sys_of net).goal x sets (2 ^ full)
   goal_alone small on ne m lt = word_bit_pow full m ∙ by (eqb m full) refl

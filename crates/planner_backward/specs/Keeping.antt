@@ -7,7 +7,7 @@ use Rattle.network_words.specs.Words.{word_bit}
 use Rattle.planner_theory.specs.Moves.{sys_of}
 use Rattle.planner_theory.specs.Layers.{can, some_of}
 use Rattle.planner_table.specs.Table.{in_slot, layers_of, OnlySlot}
-use Rattle.planner_forward.specs.Spreading.{Met}
+use Rattle.planner_forward.specs.Spreading.{MetAt}
 
 -- slot i with the states that pass the test
 pub record Filtered (test : ℕ → Bool) (i : ℕ) (tab tab' : List ℕ) : Type 0 where
@@ -39,5 +39,5 @@ pub record Useful (net : Network) (start d : ℕ) (tab tab' : List ℕ) : Type 0
 -- what the way along the states kept asks: a table of layers 1 to d that has been so kept, d being the least count of operations
 pub record Kept (net : Network) (start d : ℕ) (tab : List ℕ) : Type 0 where
   pub before : List ℕ
-  pub met : Met net start before d
+  pub met : MetAt net start before d
   pub useful : Useful net start d before tab

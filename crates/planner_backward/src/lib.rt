@@ -7,11 +7,11 @@ ghost use Rattle.planner_theory.specs.Moves.{all_of, sys_of};
 ghost use Rattle.planner_settings.specs.Route.{Plannable, Each};
 ghost use Rattle.planner_rows.specs.Rows.{RowsRight, Landing, OfRow};
 ghost use Rattle.planner_table.specs.Table.{SlotKnown};
-ghost use Rattle.planner_forward.specs.Spreading.{Met, SearchStarts};
+ghost use Rattle.planner_forward.specs.Spreading.{MetAt, SearchStarts};
 ghost use Rattle.planner_backward.specs.Keeping.{Filtered, FilteredSets, enters, leads, UnionOf, Useful};
 
 use model::limits::MAX_SETTINGS;
-use network_path::layout::{Nodes, Words, wide};
+use network_path::layout::{Nodes, Words};
 use planner_rows::{COUNT, GAIN, Lands, MAX_CHOICES, Rows, know_row, list_lands, number};
 use planner_settings::setting_count;
 use planner_steering::Problem;
@@ -51,10 +51,8 @@ fn union_of(table: &[u16], i: usize, lands: &Lands, n: usize) -> u16
     ensures { UnionOf table.now i lands.now n result }
 {
     let mut all: u16 = 0;
-    let mut c: usize = 0;
-    while c < n {
-        all = all | table[i * MAX_SETTINGS + wide(lands[c])];
-        c += 1;
+    for c in 0..n {
+        all |= table[i * MAX_SETTINGS + usize::from(lands[c])];
     }
     all
 }
@@ -118,6 +116,7 @@ fn keep_slot<'a>(
     let end = setting_count(problem.width);
     let at = i * MAX_SETTINGS;
     let mut x = next_setting(table, at, 0, end);
+    // A while, as the step varies.
     while x < end {
         let sets = table[at + x];
         table[at + x] = kept_sets(nodes, steering, problem, rows, full, table, d, i, x, sets);
@@ -140,11 +139,9 @@ pub fn keep_all<'a>(
     requires rows_right { RowsRight nodes.now steering.now problem rows.old }
     requires room { (search_size ≤ length table.old) × (full < 16) × (d ≤ 16) }
     ensures rows_right { RowsRight nodes.now steering.now problem rows.new }
-    ensures useful { Each nodes.now steering.now problem (λ net. SearchStarts net start full → Met net (start * 16) table.old d → Useful net (start * 16) d table.old table.new) }
+    ensures useful { Each nodes.now steering.now problem (λ net. SearchStarts net start full → MetAt net (start * 16) table.old d → Useful net (start * 16) d table.old table.new) }
 {
-    let mut i = d;
-    while 0 < i {
-        i -= 1;
+    for i in (0..d).rev() {
         keep_slot(nodes, steering, problem, rows, full, table, d, i);
     }
 }

@@ -18,26 +18,10 @@ use Rattle.planner_table.specs.Table.{in_slot, SlotKnown, Skipped}
 use Rattle.planner_forward.specs.Goals.{SetsIn, goal_with, GoalIn}
 use Rattle.planner_table.proofs.SlotLaws.{slot_at}
 
--- ---- one setting
-
-pub goal_without : (net : Network) (full x sets : ℕ) → word_bit sets full ≡ false → false ≡ goal_with net full x sets
-goal_without net full x sets e = rw e
-
-pub goal_counted : (net : Network) (full x sets n : ℕ) → word_bit sets full ≡ true → n ≡ count net x → ltb 0 n ≡ goal_with net full x sets
-goal_counted net full x sets n e is = rw (e, is)
-
 -- ---- a slot
 
 pub slot_word : (tab : List ℕ) (i s : ℕ) → in_slot tab i s ≡ true → word_bit (get_or tab (i * 729 + s / 16) 0) (s % 16) ≡ true
 slot_word tab i s e = (and_parts (ltb s 11664) (word_bit (get_or tab (i * 729 + s / 16) 0) (s % 16)) e).1
-
--- settings without a state are no goals
-pub goal_skip : (net : Network) (full : ℕ) (tab : List ℕ) (i x end r : ℕ) → ((y : ℕ) → y < x → goal_with net full y (get_or tab (i * 729 + y) 0) ≡ false)
-    → Skipped tab (i * 729) x end r → (y : ℕ) → y < r → goal_with net full y (get_or tab (i * 729 + y) 0) ≡ false
-goal_skip net full tab i x end r off k y l = elim (dec_lt y x) [
-  | yes h ↦ off y h
-  | no h ↦ rw (k.empty y (omega arith) l, zero_bit full)
-]
 
 module _ (net : Network) (full : ℕ) (all : full ≡ all_of net.targets) (small : full < 16) (tab : List ℕ) (i : ℕ) where
   pub goal_there : (x : ℕ) → x < 729 → goal_with net full x (get_or tab (i * 729 + x) 0) ≡ true → GoalIn net tab i true
@@ -67,11 +51,3 @@ module _ (net : Network) (full : ℕ) (all : full ≡ all_of net.targets) (small
           let b = goal_full s q in
           let w : word_bit (get_or tab (i * 729 + s / 16) 0) full ≡ true = ap (word_bit (get_or tab (i * 729 + s / 16) 0)) (sym b.0) ∙ slot_word tab i s e in
           absurd (true_false (sym (and_both (word_bit (get_or tab (i * 729 + s / 16) 0) full) (ltb 0 (count net (s / 16))) w b.1) ∙ off (s / 16) (omega (arith, known s e))))
-
-  -- the sets of the slot's states are in came, and that of all targets is not
-  pub goal_not_come : (came : ℕ) → SetsIn (λ (s : ℕ). in_slot tab i s ≡ true) came → word_bit came full ≡ false → GoalIn net tab i false
-  goal_not_come came sets off = record { some_goal = λ r. absurd (true_false (sym r)); no_goal = λ r s e. no s e ((sys_of net).goal s) refl }
-    where
-      no : (s : ℕ) → in_slot tab i s ≡ true → (t : Bool) → (sys_of net).goal s ≡ t → t ≡ false
-      no s e false q = refl
-      no s e true q = absurd (true_false (sym (sets s e) ∙ ap (word_bit came) (goal_full s q).0 ∙ off))

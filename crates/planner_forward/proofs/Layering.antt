@@ -12,6 +12,7 @@ use borrow.Author.Tests.{eq-eqb, ne_eqb, eqb-true, eqb-false}
 use lib.Dec.{eqb, ltb}
 use lib.ListN.{get_or, set, replicate, length-replicate}
 use lib.Seq.{get_or-set_same, get_or-set_other}
+use Rattle.std.specs.Prelude.{None as none}
 use Rattle.model.specs.Network.{Network}
 use Rattle.model.specs.Accepted.{Accepted}
 use Rattle.model.proofs.Lists.{true_false, zero_at, and_false_right}
@@ -19,12 +20,13 @@ use Rattle.network_words.specs.Words.{word_bit}
 use Rattle.network_words.proofs.WordLaws.{zero_bit}
 use Rattle.network_words.proofs.WordTests.{word_bit_pow}
 use Rattle.planner_theory.specs.Moves.{all_of, count, gain, reached, sys_of}
+use Rattle.planner_theory.specs.Search.{plan_up_to}
 use Rattle.planner_theory.specs.Layers.{MetBy, Layers}
 use Rattle.planner_theory.proofs.Forward.{earlier_same, stepped_same, layers_same, layers_start, layers_next, layers_empty, nothing_up_to}
 use Rattle.planner_theory.proofs.MoveLaws.{gain_within, land_within}
 use Rattle.planner_table.specs.Table.{in_slot, in_seen, layers_of, Others, Known, SlotKnown}
 use Rattle.planner_forward.specs.Goals.{SetsIn, GoalIn}
-use Rattle.planner_forward.specs.Spreading.{Spread, Next, Met, SearchStarts}
+use Rattle.planner_forward.specs.Spreading.{Spread, Next, MetAt, SearchStarts}
 use Rattle.planner_table.proofs.SetLaws.{together_small}
 use Rattle.planner_table.proofs.SlotLaws.{slot_beyond, slot_other}
 
@@ -40,9 +42,9 @@ pub record Forward (net : Network) (start i : ℕ) (tab seen : List ℕ) : Type 
 
 -- an empty slot
 pub slot_empty : (tab : List ℕ) (j s : ℕ) → j < 16 → ((n : ℕ) → n < 11664 → get_or tab n 0 ≡ 0) → in_slot tab j s ≡ false
-slot_empty tab j s less none =
+slot_empty tab j s less zeros =
     elim (dec_lt s 11664) [
-      | yes lt ↦ rw (none (j * 729 + s / 16) (omega arith), zero_bit (s % 16)) (and_false_right (ltb s 11664))
+      | yes lt ↦ rw (zeros (j * 729 + s / 16) (omega arith), zero_bit (s % 16)) (and_false_right (ltb s 11664))
       | no ge ↦ slot_beyond tab j s (omega arith)
     ]
 
@@ -71,12 +73,12 @@ seen_start n start s lt e = by (eqb start (s / 16)) refl
 module _ (net : Network) (start full : ℕ) (starts : SearchStarts net start full) (tab seen : List ℕ) where
   pub forward_start : ((n : ℕ) → n < 11664 → get_or tab n 0 ≡ 0) → ((s : ℕ) → in_seen seen s ≡ true → s ≡ start * 16) → Forward net (start * 16) 0 tab seen
   unfolding layers_of
-  forward_start none met = record {
+  forward_start zeros met = record {
     layers = layers_start (sys_of net) (start * 16) (layers_of (start * 16) tab) (λ s e. eqb-true s (start * 16) e) (eq-eqb (start * 16) (start * 16) refl);
     goalless = goalless;
     met = λ s e. record { at = 0; within = omega arith; is = eq-eqb s (start * 16) (met s e) };
     known = known;
-    empty = λ j s le lt. slot_empty tab j s lt none;
+    empty = λ j s le lt. slot_empty tab j s lt zeros;
   }
     where
       goalless : (s : ℕ) → layers_of (start * 16) tab 0 s ≡ true → (sys_of net).goal s ≡ false
@@ -157,29 +159,16 @@ module _ (net : Network) (accepted : Accepted net) (start i : ℕ) (less : i < 1
       })
 
   -- the layer has one
-  pub met_goal : (r : Bool) → (SlotKnown net tab' i → GoalIn net tab' i r) → r ≡ true → Met net start tab' (i + 1)
+  pub met_goal : (r : Bool) → (SlotKnown net tab' i → GoalIn net tab' i r) → r ≡ true → MetAt net start tab' (i + 1)
   unfolding layers_of
-  met_goal r g e =
-      rw (add-one i)
-      (record {
-        most = omega arith;
-        nothing = λ z. absurd (omega arith);
-        layers = λ lt. layers;
-        goal = λ lt. (g slot_known).some_goal e;
-        known = known;
-      })
+  met_goal r g e = rw (add-one i) (record { first = omega arith; most = omega arith; layers = layers; goal = (g slot_known).some_goal e; known = known })
 
   -- nothing came to the layer, so that it and all behind it are empty
-  pub met_empty : SetsIn (λ (s : ℕ). in_slot tab' i s ≡ true) 0 → Met net start tab' 0
+  pub met_empty : SetsIn (λ (s : ℕ). in_slot tab' i s ≡ true) 0 → plan_up_to (sys_of net) 16 start ≡ none
   unfolding layers_of
-  met_empty none = record {
-    most = omega arith;
-    nothing = λ z. nothing_up_to (sys_of net) start (layers_of start tab') 16 (layers_empty (sys_of net) start (layers_of start tab') (suc i) 16 layers (omega arith) empty)
-        (λ s e. absurd (true_false (sym e ∙ empty 16 s (omega arith) (omega arith))));
-    layers = λ lt. absurd (omega arith);
-    goal = λ lt. absurd (omega arith);
-    known = λ j s le. known j s (omega arith);
-  }
+  met_empty nothing =
+      nothing_up_to (sys_of net) start (layers_of start tab') 16 (layers_empty (sys_of net) start (layers_of start tab') (suc i) 16 layers (omega arith) empty)
+      (λ s e. absurd (true_false (sym e ∙ empty 16 s (omega arith) (omega arith))))
     where
       empty_slot : (j s : ℕ) → i ≤ j → j < 16 → in_slot tab' j s ≡ false
       empty_slot j s le lt =
@@ -189,7 +178,7 @@ module _ (net : Network) (accepted : Accepted net) (start i : ℕ) (less : i < 1
           ]
         where
           off : (t : Bool) → in_slot tab' i s ≡ t → t ≡ false
-          off true e = absurd (true_false (sym (none s e) ∙ zero_bit (s % 16)))
+          off true e = absurd (true_false (sym (nothing s e) ∙ zero_bit (s % 16)))
           off false e = refl
 
       empty : (j s : ℕ) → suc i ≤ j → j ≤ 16 → layers_of start tab' j s ≡ false
@@ -198,11 +187,5 @@ module _ (net : Network) (accepted : Accepted net) (start i : ℕ) (less : i < 1
 
 -- ---- no layer up to 16 has a goal
 
-pub met_nothing : (net : Network) (start i : ℕ) (tab seen : List ℕ) → 16 ≤ i → i ≤ 16 → Forward net start i tab seen → Met net start tab 0
-met_nothing net start i tab seen least most f = record {
-  most = omega arith;
-  nothing = λ z. let d : i ≡ 16 = omega arith in (rw d at (nothing_up_to (sys_of net) start (layers_of start tab) i f.layers f.goalless));
-  layers = λ lt. absurd (omega arith);
-  goal = λ lt. absurd (omega arith);
-  known = λ j s le. f.known j s (omega arith);
-}
+pub met_nothing : (net : Network) (start i : ℕ) (tab seen : List ℕ) → i ≡ 16 → Forward net start i tab seen → plan_up_to (sys_of net) 16 start ≡ none
+met_nothing net start i tab seen d f = rw d at (nothing_up_to (sys_of net) start (layers_of start tab) i f.layers f.goalless)

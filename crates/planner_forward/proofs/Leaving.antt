@@ -20,7 +20,7 @@ use Rattle.planner_theory.specs.Moves.{count, reached, goes}
 use Rattle.planner_table.specs.Table.{layers_of, Known, Skipped}
 use Rattle.planner_forward.specs.Goals.{SetsIn}
 use Rattle.planner_forward.specs.Spreading.{Spread, Leaves, Next}
-use Rattle.planner_forward.proofs.SpreadLaws.{spread_none, spread_more, spread_as}
+use Rattle.planner_forward.proofs.SpreadLaws.{spread_more, spread_as}
 use Rattle.planner_table.proofs.SlotLaws.{layer_slot, slot_at}
 use Rattle.planner_forward.proofs.GoalLaws.{slot_word}
 
@@ -43,9 +43,6 @@ below_or_at net tab j x sets e s a = elim (dec_lt a.setting x) [
 ]
 
 module _ (net : Network) (tab : List ℕ) (j i : ℕ) where
-  pub left_none : (seen : List ℕ) → length seen ≡ 729 → Spread (LeftBelow net tab j 0) i tab seen tab seen
-  left_none seen size = spread_none (LeftBelow net tab j 0) i tab seen (λ s a. omega (arith, a.below)) size
-
   module _ (x : ℕ) (seen tab' seen' : List ℕ) (p : Spread (LeftBelow net tab j x) i tab seen tab' seen') where
     pub left_more : (sets : ℕ) (tab'' seen'' : List ℕ) → sets ≡ get_or tab (j * 729 + x) 0 → Spread (Leaves net x sets) i tab' seen' tab'' seen'' → Spread (LeftBelow net tab j (x + 1)) i tab seen tab'' seen''
     left_more sets tab'' seen'' e q =
@@ -56,9 +53,6 @@ module _ (net : Network) (tab : List ℕ) (j i : ℕ) where
 
 -- their sets, setting by setting
 module _ (net : Network) (tab : List ℕ) (j : ℕ) where
-  pub sets_none : (all : ℕ) → SetsIn (LeftBelow net tab j 0) all
-  sets_none all s a = absurd (omega (arith, a.below))
-
   module _ (x all : ℕ) (p : SetsIn (LeftBelow net tab j x) all) where
     pub sets_more : (sets got : ℕ) → sets ≡ get_or tab (j * 729 + x) 0 → SetsIn (Leaves net x sets) got → SetsIn (LeftBelow net tab j (x + 1)) (bit_or all got)
     sets_more sets got e q s a = word_bit_or all got (s % 16) ∙ by (below_or_at net tab j x sets e s a)

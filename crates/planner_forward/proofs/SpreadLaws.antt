@@ -23,18 +23,7 @@ use Rattle.planner_forward.specs.Goals.{SetsIn}
 use Rattle.planner_forward.specs.Spreading.{Spread, AtSetting, Arrives, Leaves}
 use Rattle.planner_table.proofs.SetLaws.{or_cases, together_small}
 
--- ---- nothing, and one after the other
-
-pub spread_none : (P : ℕ → Type 0) (i : ℕ) (tab seen : List ℕ) → ((s : ℕ) → P s → ⊥) → length seen ≡ 729 → Spread P i tab seen tab seen
-spread_none P i tab seen off size = record {
-  came = λ s e. inl e;
-  covers = λ s p. absurd (off s p);
-  met = λ s e. inl e;
-  seen_kept = λ s e. e;
-  slot_kept = λ s e. e;
-  only = record { others = λ n o. refl; size = refl };
-  seen_size = size;
-}
+-- ---- one after the other
 
 pub spread_more : (P Q R : ℕ → Type 0) (i : ℕ) (tab seen tab' seen' tab'' seen'' : List ℕ) → ((s : ℕ) → R s → P s ⊎ Q s) → ((s : ℕ) → P s → R s) → ((s : ℕ) → Q s → R s)
     → Spread P i tab seen tab' seen' → Spread Q i tab' seen' tab'' seen'' → Spread R i tab seen tab'' seen''
@@ -178,25 +167,6 @@ module _ (i y got : ℕ) (tab seen : List ℕ) (room : 11664 ≤ length tab) (si
       away : (n : ℕ) → OutOfSlot i n → n ≡ i * 729 + y → ⊥
       away n (inl lt) z = omega arith
       away n (inr le) z = omega arith
-
--- ---- all that n choices lead to
-
-pub arrives_none : (i got : ℕ) (lands tab seen : List ℕ) → length seen ≡ 729 → Spread (Arrives lands 0 got) i tab seen tab seen
-arrives_none i got lands tab seen size = spread_none (Arrives lands 0 got) i tab seen (λ s a. omega (arith, a.within)) size
-
-pub arrives_more : (i c got : ℕ) (lands tab seen tab' seen' tab'' seen'' : List ℕ) → Spread (Arrives lands c got) i tab seen tab' seen'
-    → Spread (AtSetting (get_or lands c 0) got) i tab' seen' tab'' seen'' → Spread (Arrives lands (c + 1) got) i tab seen tab'' seen''
-arrives_more i c got lands tab seen tab' seen' tab'' seen'' p q =
-    spread_more (Arrives lands c got) (AtSetting (get_or lands c 0) got) (Arrives lands (c + 1) got) i tab seen tab' seen' tab'' seen'' parts
-    (λ s a. record { choice = a.choice; within = omega (arith, a.within); there = a.there })
-    (λ s a. record { choice = c; within = omega arith; there = a })
-    p q
-  where
-    parts : (s : ℕ) → Arrives lands (c + 1) got s → Arrives lands c got s ⊎ AtSetting (get_or lands c 0) got s
-    parts s a = elim (dec_lt a.choice c) [
-      | yes h ↦ inl (record { choice = a.choice; within = h; there = a.there })
-      | no h ↦ let z : a.choice ≡ c = omega (arith, a.within) in inr (record { setting = a.there.setting ∙ ap (λ (n : ℕ). get_or lands n 0) z; is = a.there.is })
-    ]
 
 -- ---- all that leaves setting x
 

@@ -1,7 +1,7 @@
 -- What the functions that fill a slot from the layer before it ask and leave.
 -- Assumes nothing.
 use Rattle.std.specs.Prelude.{◌≡◌, true, ◌⊎◌, List, ℕ, ◌/◌, ◌%◌, ◌^◌, ◌≤◌, ◌<◌, length, get_or}
-use Rattle.std.proofs.Math.Option.{none}
+use Rattle.std.specs.Prelude.{Option, None as none, MatchOption}
 use Rattle.model.specs.Limits.{max_settings}
 use Rattle.model.specs.Network.{Network, steering_bits}
 use Rattle.network_words.specs.Words.{word_bit}
@@ -50,10 +50,14 @@ pub record SearchStarts (net : Network) (start full : ℕ) : Type 0 where
   pub all : full ≡ all_of net.targets
   pub one : 1 ≤ full
 
--- the first layer with a goal, r; 0 where none up to layer 16 has one
-pub record Met (net : Network) (start : ℕ) (tab : List ℕ) (r : ℕ) : Type 0 where
+-- layer r is the first with a goal
+pub record MetAt (net : Network) (start : ℕ) (tab : List ℕ) (r : ℕ) : Type 0 where
+  pub first : 0 < r
   pub most : r ≤ 16
-  pub nothing : r ≡ 0 → plan_up_to (sys_of net) 16 start ≡ none
-  pub layers : 0 < r → Layers (sys_of net) start (layers_of start tab) r
-  pub goal : 0 < r → (s : ℕ) × (layers_of start tab r s ≡ true) × ((sys_of net).goal s ≡ true)
+  pub layers : Layers (sys_of net) start (layers_of start tab) r
+  pub goal : (s : ℕ) × (layers_of start tab r s ≡ true) × ((sys_of net).goal s ≡ true)
   pub known : Known net start tab r
+
+-- the first layer with a goal, or none up to layer 16 has one
+abbrev pub Met : Network → ℕ → List ℕ → Option ℕ → Type 0
+Met net start tab r = MatchOption r (plan_up_to (sys_of net) 16 start ≡ none) (MetAt net start tab)

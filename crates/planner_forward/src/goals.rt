@@ -57,6 +57,7 @@ fn has_goal<'a>(
     let end = setting_count(problem.width);
     let at = i * MAX_SETTINGS;
     let mut x = next_setting(table, at, 0, end);
+    // A while, as settings without a state are passed over.
     while x < end {
         let sets = table[at + x];
         if is_goal(nodes, steering, problem, rows, full, x, sets) {
@@ -84,8 +85,5 @@ pub fn meets_goal<'a>(
     ensures rows_right { RowsRight nodes.now steering.now problem rows.new }
     ensures goal { Each nodes.now steering.now problem (λ net. full ≡ all_of net.targets → SlotKnown net table.now i → SetsIn (λ (s : ℕ). in_slot table.now i s ≡ true) came → GoalIn net table.now i result) }
 {
-    if !has(came, full) {
-        return false;
-    }
-    has_goal(nodes, steering, problem, rows, full, table, i)
+    has(came, full) && has_goal(nodes, steering, problem, rows, full, table, i)
 }

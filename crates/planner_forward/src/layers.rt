@@ -10,7 +10,7 @@ ghost use Rattle.planner_forward.specs.Spreading.{Spread, AtSetting, Arrives, Le
 
 use crate::goals::meets_goal;
 use model::limits::{MAX_OPERATIONS, MAX_SETTINGS};
-use network_path::layout::{Nodes, Words, wide};
+use network_path::layout::{Nodes, Words};
 use planner_rows::{GAIN, Lands, MAX_CHOICES, Rows, know_row, list_lands, number};
 use planner_settings::setting_count;
 use planner_steering::Problem;
@@ -31,8 +31,7 @@ fn arrive(table: &mut [u16], seen: &mut Seen, y: usize, got: u16, i: usize)
         return;
     }
     seen[y] = all;
-    let there = table[i * MAX_SETTINGS + y];
-    table[i * MAX_SETTINGS + y] = there | got;
+    table[i * MAX_SETTINGS + y] |= got;
 }
 
 // The sets got go to each setting that one of n choices leads to.
@@ -41,10 +40,8 @@ fn spread_choices(table: &mut [u16], seen: &mut Seen, lands: &Lands, n: usize, g
     requires lands_small { (c : ℕ) → c < n → get_or lands.now c 0 < max_settings }
     ensures { Spread (Arrives lands.now n got) i table.old seen.old table.new seen.new }
 {
-    let mut c: usize = 0;
-    while c < n {
-        arrive(table, seen, wide(lands[c]), got, i);
-        c += 1;
+    for c in 0..n {
+        arrive(table, seen, usize::from(lands[c]), got, i);
     }
 }
 
@@ -97,17 +94,17 @@ fn spread_layer<'a>(
     let at = (i - 1) * MAX_SETTINGS;
     let mut all: u16 = 0;
     let mut x = next_setting(table, at, 0, end);
+    // A while, as settings without a state are passed over.
     while x < end {
         let sets = table[at + x];
         know_row(nodes, steering, problem, x, rows);
-        let got = spread_setting(rows, x, sets, table, seen, i);
-        all = all | got;
+        all |= spread_setting(rows, x, sets, table, seen, i);
         x = next_setting(table, at, x + 1, end);
     }
     all
 }
 
-// Layer after layer from the start, until one has a goal: its number, or 0 where none of 16 has one. The table is empty before.
+// Layer after layer from the start, until one of 16 has a goal: its number. The table is empty before.
 pub fn find_layer<'a>(
     nodes: &'a Nodes,
     steering: &'a Words,
@@ -116,7 +113,7 @@ pub fn find_layer<'a>(
     start: usize,
     full: usize,
     table: &mut [u16],
-) -> usize
+) -> Option<usize>
     requires plannable { Plannable nodes.now steering.now problem }
     requires rows_right { RowsRight nodes.now steering.now problem rows.old }
     requires empty { (search_size ≤ length table.old) × ((n : ℕ) → n < search_size → get_or table.old n 0 ≡ 0) }
@@ -127,16 +124,14 @@ pub fn find_layer<'a>(
 {
     let mut seen: Seen = [0; MAX_SETTINGS];
     seen[start] = 1;
-    let mut i: usize = 0;
-    while i < MAX_OPERATIONS {
+    for i in 0..MAX_OPERATIONS {
         let came = spread_layer(nodes, steering, problem, rows, start, table, &mut seen, i);
         if came == 0 {
-            return 0;
+            return None;
         }
         if meets_goal(nodes, steering, problem, rows, full, table, i, came) {
-            return i + 1;
+            return Some(i + 1);
         }
-        i += 1;
     }
-    0
+    None
 }

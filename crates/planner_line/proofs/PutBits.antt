@@ -106,11 +106,6 @@ module _ (at len steer want h c : ℕ) (old : List ℕ) where
       (one_more net at h c old (segment_places s i) left buf (p net s w) (s, i) i v next (length_segment s i) (omega arith)
       (byte ∙ rw (w.steers_are i l, w.wants_are i l)) (rest ∙ rw (w.steers_are i l)))
 
-  pub putting_all : (i left : ℕ) (buf : List ℕ) → i ≤ len → len ≤ i → SegmentPutting at len steer want h c old i left buf → SegmentPut at len steer want h c old left buf
-  putting_all i left buf a b p net s w =
-      let e : i ≡ len = omega arith in
-      subst (λ (k : ℕ). BitsPut net (segment_places s k) at h c old left buf) e (p net s w)
-
 -- ---- a segment of which no bit steers, with no bit to write: its bytes are `0`
 
 module _ (net : Network) (s len : ℕ) (w : WordsOf net s len 0 0) (h c : ℕ) where

@@ -80,23 +80,10 @@ module _ {ns steering wants way : List ℕ} {n at h c : ℕ} {old : List ℕ} {i
               (put net k (words_of net ns steering wants f k len on.below (omega (arith, on.most)) is)));
         }
 
-  module _ (a : i ≤ n) (b : n ≤ i) where
-    pub operation_place : place ≡ at + path_length (scan_path ns (take n way))
-    operation_place =
-        let rest = ap (λ (ks : List ℕ). path_length (scan_path ns ks)) (path_end ns way n r.holds i b) in
-        omega (arith, p.whole)
-
-    pub operation_all : OperationPut ns steering wants way n at h c old buf
-    operation_all net f = let e : i ≡ n = omega arith in (subst (λ (j : ℕ). BitsPut net (places_to ns way j) at h c old left buf) e (p.bits net f)).holds
-
 -- ---- an operation's line: the word before its bits, the bits, the line's end
 
 pub length_operation : (net : Network) (p : ScanPath) (h c : ℕ) → length (operation_bits net p h c) ≡ path_length p
 length_operation net p h c = length_bits net (places_of p) h c ∙ length_places p
-
-pub operation_room : {ns way : List ℕ} {n : ℕ} {old : List ℕ} (at : ℕ) → HasRoom ns way n (at + 5) old → (place : ℕ) (buf : List ℕ)
-    → place ≡ at + 4 → length buf ≡ length old → HasRoom ns way n place buf
-operation_room at r place buf e size = record { holds = r.holds; room = omega (arith, r.room) }
 
 pub zeros_there : (place m : ℕ) (x zeroed : List ℕ) → place + m ≤ length x → zeroed ≡ write_at place (replicate m 48) x → ZerosFrom zeroed place m
 zeros_there place m x zeroed fits e k l =

@@ -1,6 +1,6 @@
 -- What the writers of an operation's line answer and write, for any network that their words are those of.
 -- Assumes nothing.
-use Rattle.std.specs.Prelude.{◌≡◌, cond, List, map, ℕ, ◌+◌, ◌≤◌, ◌<◌, eqb, length, get_or, set, take}
+use Rattle.std.specs.Prelude.{◌≡◌, List, map, ℕ, ◌+◌, ◌≤◌, ◌<◌, length, get_or, take}
 use Rattle.model.specs.Limits.{max_nodes}
 use Rattle.model.specs.Network.{Network, len_of, steers, tabulate}
 use Rattle.model.specs.Path.{ScanPath, path_length}
@@ -24,10 +24,6 @@ WantedWord t s r = (ns : List ℕ) (b : ℕ) → b < len_of (node_at ns s) → w
 pub record WantsOf (t : Summary) (wants : List ℕ) : Type 0 where
   pub size : length wants ≡ node_numbers
   pub are : (s : ℕ) → s ≤ max_nodes → WantedWord t s (get_or wants s 0)
-
--- the words with the bits of a target, by its segment and its word, put in if it is a write target
-abbrev pub wants_with : ℕ → ℕ → ℕ → List ℕ → List ℕ
-wants_with segment word bits wants = cond (eqb word 1) (set wants segment bits) wants
 
 -- the two words of segment s, as far as its len bits go: those that steer, and what the planner shifts to the others
 pub record WordsOf (net : Network) (s len steer want : ℕ) : Type 0 where

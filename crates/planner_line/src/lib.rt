@@ -3,45 +3,29 @@
 #![tactic(auto)]
 
 ghost use Rattle.std.specs.Prelude.{◌≡◌, cond, ◌+◌, ◌/◌, ◌%◌, ◌<◌, ◌≤◌, eqb, length, take};
-ghost use Rattle.model.specs.Limits.{max_nodes};
 ghost use Rattle.model.specs.Path.{path_length};
 ghost use Rattle.model.specs.Tap.{bit_byte};
 ghost use Rattle.network_words.specs.Words.{word_width, word_bit};
 ghost use Rattle.network_path.specs.Layout.{scan_path, node_numbers};
 ghost use Rattle.network_draft.specs.Represents.{InLimits};
 ghost use Rattle.planner_settings.specs.Route.{Unmarked, TargetsWithin};
-ghost use Rattle.planner_line.specs.Line.{wants_with, WantsOf, ZerosFrom, KeptFrom, SegmentPut, HasRoom, OperationPut, LinePut};
+ghost use Rattle.planner_line.specs.Line.{WantsOf, ZerosFrom, KeptFrom, SegmentPut, HasRoom, OperationPut, LinePut};
 
 use network_draft::store::Summary;
-use network_path::layout::{Nodes, Way, Words, segment_len, wide};
+use network_path::layout::{Nodes, Way, Words, segment_len};
 use network_words::{Word, bit_at};
 use plan_text::{put, put_repeated};
-
-// The bits of a target, by its segment and its word, become its segment's word in wants if it is a write target.
-fn want_target(segment: u16, word: u16, bits: Word, wants: &mut Words)
-    requires { (segment ≤ max_nodes) × (length wants.old ≡ node_numbers) }
-    ensures { wants.new ≡ wants_with segment word bits wants.old }
-{
-    if word != 1 {
-        return;
-    }
-    wants[wide(segment)] = bits;
-}
 
 // For each segment the word that the planner shifts to its bits that do not steer: the bits of its first write target, else 0.
 pub fn list_wants(t: Summary, wants: &mut Words)
     requires { (InLimits t) × TargetsWithin t × Unmarked wants.old }
     ensures { WantsOf t wants.new }
 {
-    let mut i = t.target_count;
-    while 0 < i {
-        i -= 1;
-        want_target(
-            t.target_segment[i],
-            t.target_write[i],
-            t.target_bits[i],
-            wants,
-        );
+    for i in (0..t.target_count).rev() {
+        let target = t.targets[i];
+        if let Some(bits) = target.write {
+            wants[usize::from(target.segment)] = bits;
+        }
     }
 }
 
@@ -49,20 +33,7 @@ pub fn list_wants(t: Summary, wants: &mut Words)
 fn digit(c: usize, w: usize) -> usize
     ensures { result ≡ c / w % 2 }
 {
-    if w == 0 {
-        return 0;
-    }
-    c / w % 2
-}
-
-// The byte of a bit.
-fn byte_of(bit: usize) -> u8
-    ensures { result ≡ bit_byte (eqb bit 1) }
-{
-    if bit == 1 {
-        return b'1';
-    }
-    b'0'
+    if w == 0 { 0 } else { c / w % 2 }
 }
 
 // The byte of bit b of a segment, given the words of its steering bits and of its other bits; h is 2 to the count of digits left.
@@ -70,10 +41,12 @@ fn byte_at(steer: Word, want: Word, b: usize, h: usize, c: usize) -> u8
     requires { b < word_width }
     ensures { result ≡ bit_byte (cond (word_bit steer b) (eqb (c / (h / 2) % 2) 1) (word_bit want b)) }
 {
-    if bit_at(steer, b) == 1 {
-        return byte_of(digit(c, h / 2));
-    }
-    byte_of(bit_at(want, b))
+    let bit = if bit_at(steer, b) == 1 {
+        digit(c, h / 2)
+    } else {
+        bit_at(want, b)
+    };
+    b'0' + u8::from(bit == 1)
 }
 
 // What is left of h behind bit b.
@@ -81,10 +54,7 @@ fn left_behind(steer: Word, b: usize, h: usize) -> usize
     requires { b < word_width }
     ensures { result ≡ cond (word_bit steer b) (h / 2) h }
 {
-    if bit_at(steer, b) == 1 {
-        return h / 2;
-    }
-    h
+    if bit_at(steer, b) == 1 { h / 2 } else { h }
 }
 
 // The bytes of the len bits of a segment, written bit by bit from a place on; what is left of h.
@@ -102,11 +72,9 @@ fn put_bits(
     ensures kept_from { KeptFrom (at + len) plan.old plan.new }
 {
     let mut left = h;
-    let mut b: usize = 0;
-    while b < len {
+    for b in 0..len {
         plan[at + b] = byte_at(steer, want, b, left, c);
         left = left_behind(steer, b, left);
-        b += 1;
     }
     left
 }
@@ -127,10 +95,8 @@ fn put_segment(
     ensures segment_put { SegmentPut at len steer want h c plan.old result plan.new }
     ensures kept_from { KeptFrom (at + len) plan.old plan.new }
 {
-    if steer == 0 {
-        if want == 0 {
-            return h;
-        }
+    if steer == 0 && want == 0 {
+        return h;
     }
     put_bits(plan, at, len, steer, want, h, c)
 }
@@ -154,13 +120,11 @@ fn put_operation<'a>(
 {
     let mut place = at;
     let mut left = h;
-    let mut i: usize = 0;
-    while i < n {
-        let s = wide(way[i]);
+    for i in 0..n {
+        let s = usize::from(way[i]);
         let len = segment_len(nodes, s);
         left = put_segment(plan, place, len, steering[s], wants[s], left, c);
         place += len;
-        i += 1;
     }
     place
 }

@@ -12,9 +12,9 @@ use Rattle.model.specs.Network.{Network, steering_bits}
 use Rattle.model.specs.Path.{stop}
 use Rattle.model.specs.Accepted.{Accepted}
 use Rattle.model.proofs.Lists.{eqb_is}
-use Rattle.network_path.specs.Answers.{told, WalkHeld}
-use Rattle.network_path.specs.declared.walk.Walked.{Walked}
-use Rattle.network_path.specs.declared.walk.Walked.TheVariants.{Path, Stop as Stopped}
+use Rattle.std.specs.Prelude.{Ok, Err}
+use Rattle.network_path.specs.Answers.{Walked, told, WalkHeld}
+use Rattle.network_path.specs.declared.walk.PathSize.{PathSize}
 use Rattle.planner_theory.specs.Settings.{look_up, walk_at}
 use Rattle.planner_theory.proofs.MoveLaws.{count_stop, gain_stop, path_falls, few_choices}
 use Rattle.planner_steering.specs.declared.Problem.{Problem}
@@ -58,14 +58,14 @@ module _ (ns steering : List ℕ) (pb : Problem) (old : List ℕ) (rows : RowsRi
           row_kept net p.accepted (planned_few net ns steering pb p) old new y same (rows.right net p y small (sym (same 0 (omega arith)) ∙ known))
 
   module _ (r : Walked) (way : List ℕ) (w : Each ns steering pb (λ net. WalkIs net ns x r way)) where
-    pub stop_known : (m : ℕ) (new : List ℕ) → r ≡ Stopped m → Unread old x new → RowsRight ns steering pb new
+    pub stop_known : (m : ℕ) (new : List ℕ) → r ≡ Err m → Unread old x new → RowsRight ns steering pb new
     stop_known m new e u = rows_more new (λ net p. row_stopped net x m old new ((w net p).tells ∙ ap (told ns way) e) u) u.outside u.size
 
     -- what `write_path` asks, and its row
-    pub path_is : (net : Network) → Prepared net ns steering pb → (n len : ℕ) → r ≡ Path n len → PathIs net ns steering pb way n len x
-    path_is net p n len e =
-        let h : WalkHeld ns way (Path n len) = subst (WalkHeld ns way) e (w net p).holds in
+    pub path_is : (net : Network) → Prepared net ns steering pb → (size : PathSize) → r ≡ Ok size → PathIs net ns steering pb way size x
+    path_is net p size e =
+        let h : WalkHeld ns way (Ok size) = subst (WalkHeld ns way) e (w net p).holds in
         record { prepared = p; holds = h.0; tells = (w net p).tells ∙ ap (told ns way) e; long = h.1 }
 
-    pub path_known : (n len : ℕ) (new : List ℕ) → r ≡ Path n len → RowRead steering pb way n len x old new → RowsRight ns steering pb new
-    path_known n len new e q = rows_more new (λ net p. q.row ns net (path_is net p n len e)) q.outside q.size
+    pub path_known : (size : PathSize) (new : List ℕ) → r ≡ Ok size → RowRead steering pb way size x old new → RowsRight ns steering pb new
+    path_known size new e q = rows_more new (λ net p. q.row ns net (path_is net p size e)) q.outside q.sized

@@ -3,7 +3,7 @@
 use mathlib.Core.Path.{◌≡◌, refl, sym, ap, ◌∙◌}
 use mathlib.Core.List.{List}
 use Prim.Native.Nat.{ℕ, suc, ◌+◌, ◌*◌, ◌-◌, ◌^◌, ◌≤◌, ◌<◌}
-use native.Mathlib.Nat.{two-pow-succ}
+use native.Mathlib.Nat.{two-pow-succ, pow-le-pow_right, le_of_suc-le-suc}
 use native.Mathlib.Numerals.{add-one}
 use native.Mathlib.Omega.{arith}
 use native.Mathlib.Decide.{dec_lt}
@@ -25,28 +25,6 @@ pub record Doubling (old : List ℕ) (h w c : ℕ) (new : List ℕ) : Type 0 whe
   pub low : (i : ℕ) → i < h → get_or new i 0 ≡ get_or old i 0
   pub high : (i : ℕ) → i < c → get_or new (h + i) 0 ≡ get_or old i 0 + w
   pub size : length new ≡ 64
-
-pub doubling_none : (old : List ℕ) (h w : ℕ) → length old ≡ 64 → Doubling old h w 0 old
-doubling_none old h w size = record { passed = omega arith; low = λ i l. refl; high = λ i l. absurd (omega arith); size = size }
-
-module _ (old : List ℕ) (h w c : ℕ) (new : List ℕ) (d : Doubling old h w c new) where
-  pub doubling_more : h ≤ 32 → c < h → Doubling old h w (c + 1) (set new (h + c) (get_or new c 0 + w))
-  doubling_more few lt = record {
-    passed = omega arith;
-    low = λ i l. get_or-set_other new (h + c) i v 0 (λ z. omega arith) ∙ d.low i l;
-    high = λ i l. by i (dec_lt i c) l;
-    size = length-set new (h + c) v ∙ d.size;
-  }
-    where
-      v : ℕ
-      v = get_or new c 0 + w
-
-      by : (i : ℕ) → Dec (i < c) → i < c + 1 → get_or (set new (h + c) v) (h + i) 0 ≡ get_or old i 0 + w
-      by i (yes g) l = get_or-set_other new (h + c) (h + i) v 0 (λ z. omega arith) ∙ d.high i g
-      by i (no g) l = let z : i ≡ c = omega arith in rw z (get_or-set_same new (h + c) v 0 (omega (arith, d.size)) ∙ ap (λ (n : ℕ). n + w) (d.low c lt))
-
-  pub doubling_all : h ≤ c → Doubled old h w new
-  doubling_all l = record { low = d.low; high = λ i g. d.high i (omega arith); size = d.size }
 
 -- ---- row x of a network
 
@@ -87,6 +65,9 @@ module _ (net : Network) (rows : List ℕ) (x : ℕ) (l : Lands net rows x) wher
       by : (w : Walk) → walk_at net x ≡ w → row_number rows x 3 ≡ land net x 0
       by (stop k) e = absurd (omega (arith, count_stop net x k e))
       by (path p) e = (l.row.routed p e).base_is ∙ sym (land_num_law net l.accepted.wf x p e 0 lt ∙ land_zero (order sb p) (base_of sb p x))
+
+pub weight_small : (j : ℕ) → j < 6 → 3 ^ j ≤ 243
+weight_small j l = pow-le-pow_right {n = 3} (omega arith) {j = 5} (le_of_suc-le-suc l)
 
 -- ---- the loop: the first h choices are listed
 

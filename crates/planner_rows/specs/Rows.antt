@@ -9,6 +9,7 @@ use Rattle.model.specs.Path.{ScanPath, path, path_length}
 use Rattle.model.specs.Accepted.{Accepted}
 use Rattle.network_path.specs.Layout.{scan_path}
 use Rattle.network_path.specs.Answers.{HoldsPath}
+use Rattle.network_path.specs.declared.walk.PathSize.{PathSize}
 use Rattle.planner_theory.specs.Settings.{walk_at, order, base_of}
 use Rattle.planner_theory.specs.Moves.{count, gain, land}
 use Rattle.planner_steering.specs.declared.Problem.{Problem}
@@ -66,21 +67,21 @@ pub record RowOf (net : Network) (rows : List ℕ) (x : ℕ) : Type 0 where
   pub gain_is : row_number rows x 2 ≡ gain net x
   pub routed : (p : ScanPath) → walk_at net x ≡ path p → Routed net rows x p
 
--- the arrays hold the network, and the path of n segments and len bits is that of setting x
-pub record PathIs (net : Network) (ns steering : List ℕ) (p : Problem) (way : List ℕ) (n len x : ℕ) : Type 0 where
+-- the arrays hold the network, and the path of this size is that of setting x
+pub record PathIs (net : Network) (ns steering : List ℕ) (p : Problem) (way : List ℕ) (size : PathSize) (x : ℕ) : Type 0 where
   pub prepared : Prepared net ns steering p
-  pub holds : HoldsPath ns way n
-  pub tells : walk_at net x ≡ path (scan_path ns (take n way))
-  pub long : len ≡ path_length (scan_path ns (take n way))
+  pub holds : HoldsPath ns way size.segments
+  pub tells : walk_at net x ≡ path (scan_path ns (take size.segments way))
+  pub long : size.bits ≡ path_length (scan_path ns (take size.segments way))
 
-abbrev pub PathRead : List ℕ → Problem → List ℕ → ℕ → ℕ → ℕ → Type 0
-PathRead steering p way n len x = (ns : List ℕ) × (net : Network) × PathIs net ns steering p way n len x
+abbrev pub PathRead : List ℕ → Problem → List ℕ → PathSize → ℕ → Type 0
+PathRead steering p way size x = (ns : List ℕ) × (net : Network) × PathIs net ns steering p way size x
 
-pub record RowRead (steering : List ℕ) (p : Problem) (way : List ℕ) (n len x : ℕ) (old new : List ℕ) : Type 0 where
-  pub row : (ns : List ℕ) (net : Network) → PathIs net ns steering p way n len x → RowOf net new x
+pub record RowRead (steering : List ℕ) (p : Problem) (way : List ℕ) (size : PathSize) (x : ℕ) (old new : List ℕ) : Type 0 where
+  pub row : (ns : List ℕ) (net : Network) → PathIs net ns steering p way size x → RowOf net new x
   pub known : row_number new x 0 ≡ 1
   pub outside : Outside old x new
-  pub size : length new ≡ row_numbers
+  pub sized : length new ≡ row_numbers
 
 -- each row that is written is that of every network that the arrays hold
 pub record RowsRight (ns steering : List ℕ) (p : Problem) (rows : List ℕ) : Type 0 where

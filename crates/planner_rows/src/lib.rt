@@ -9,11 +9,9 @@ ghost use Rattle.planner_settings.specs.Route.{Plannable};
 ghost use Rattle.planner_rows.specs.Rows.{row_number, RowWritten, OrderWritten, Unread, PathRead, RowsRight, RowRead, Doubled, Landing, LandsIn, row_numbers};
 
 use model::limits::{MAX_NODES, MAX_SETTINGS};
-use network_path::layout::{NODE_NUMBERS, Nodes, Way, Words, wide};
-use network_path::walk::Walked;
-use planner_settings::{
-    Marks, base_of, mark_path, mask_of_targets, order_of, power_of_3, walk_setting,
-};
+use network_path::layout::{NODE_NUMBERS, Nodes, Way, Words};
+use network_path::walk::PathSize;
+use planner_settings::{Marks, base_of, mark_path, mask_of_targets, order_of, walk_setting};
 use planner_steering::Problem;
 
 pub const KNOWN: usize = 0;
@@ -46,22 +44,7 @@ pub fn number(rows: &Rows, x: usize, i: usize) -> usize
     requires { (x < max_settings) × (i < 11) }
     ensures { result ≡ row_number rows.now x i }
 {
-    wide(rows[x * ROW + i])
-}
-
-pub fn power_of_2(j: usize) -> u16
-    requires { j ≤ 6 }
-    ensures { (result ≡ 2 ^ j) × (result ≤ 64) }
-{
-    match j {
-        0 => 1,
-        1 => 2,
-        2 => 4,
-        3 => 8,
-        4 => 16,
-        5 => 32,
-        _ => 64,
-    }
+    usize::from(rows[x * ROW + i])
 }
 
 // The first m of order, the last first, into row x.
@@ -71,10 +54,8 @@ fn write_order(rows: &mut Rows, x: usize, order: &[usize; 6], m: usize)
     ensures { OrderWritten rows.old x order.now m rows.new }
 {
     let at = x * ROW + ORDER;
-    let mut i: usize = 0;
-    while i < m {
+    for i in 0..m {
         rows[at + i] = order[m - 1 - i] as u16;
-        i += 1;
     }
 }
 
@@ -102,40 +83,39 @@ fn write_row(
     write_order(rows, x, order, m);
 }
 
-// The row of setting x with the path whose n segments way holds, of len bits.
+// The row of setting x with the path of this size whose segments way holds.
 fn write_path<'a>(
     steering: &'a Words,
     problem: Problem,
     way: &'a Way,
-    n: usize,
-    len: usize,
+    size: PathSize,
     x: usize,
     rows: &mut Rows,
 )
-    requires path_read { PathRead steering.now problem way.now n len x }
+    requires path_read { PathRead steering.now problem way.now size x }
     requires rows_len { (length rows.old ≡ row_numbers) × (x < max_settings) }
-    ensures { RowRead steering.now problem way.now n len x rows.old rows.new }
+    ensures { RowRead steering.now problem way.now size x rows.old rows.new }
 {
     let mut marks: Marks = [0; NODE_NUMBERS];
-    mark_path(way, n, &mut marks);
+    mark_path(way, size.segments, &mut marks);
     let mut order = [0usize; 6];
     let m = order_of(
         way,
-        n,
+        size.segments,
         steering,
-        &problem.segments,
+        &problem.steering,
         problem.width,
         &mut order,
     );
     let gain = mask_of_targets(&marks, problem.summary);
-    let base = base_of(&marks, &problem.segments, problem.width, x);
+    let base = base_of(&marks, &problem.steering, problem.width, x);
     write_row(
         rows,
         x,
-        power_of_2(m),
+        2u16.pow(m as u32),
         gain,
         base as u16,
-        len as u16,
+        size.bits as u16,
         &order,
         m,
     );
@@ -159,8 +139,8 @@ fn read_row<'a>(nodes: &'a Nodes, steering: &'a Words, problem: Problem, x: usiz
 {
     let mut way: Way = [0; MAX_NODES];
     match walk_setting(nodes, steering, problem, x, &mut way) {
-        Walked::Stop(_) => write_stop(rows, x),
-        Walked::Path(n, len) => write_path(steering, problem, &way, n, len, x, rows),
+        Err(_) => write_stop(rows, x),
+        Ok(size) => write_path(steering, problem, &way, size, x, rows),
     }
 }
 
@@ -183,24 +163,14 @@ pub fn know_row<'a>(
     read_row(nodes, steering, problem, x, rows);
 }
 
-// A power of 3 as a number of the table.
-fn weight(j: usize) -> u16
-    requires { j < 6 }
-    ensures { (result ≡ 3 ^ j) × (result ≤ 243) }
-{
-    power_of_3(j) as u16
-}
-
 // Behind the first h, the same with w added.
 fn double(lands: &mut Lands, h: usize, w: u16)
     requires lands_len { (length lands.old ≡ 64) × (h ≤ 32) × (w ≤ 243) }
     requires by_index { (c : ℕ) → c < h → get_or lands.old c 0 < max_settings }
     ensures { Doubled lands.old h w lands.new }
 {
-    let mut c: usize = 0;
-    while c < h {
+    for c in 0..h {
         lands[h + c] = lands[c] + w;
-        c += 1;
     }
 }
 
@@ -213,9 +183,11 @@ pub fn list_lands(rows: &Rows, x: usize, lands: &mut Lands) -> usize
     lands[0] = rows[x * ROW + BASE];
     let mut h: usize = 1;
     let mut i: usize = 0;
+    // A while, as h doubles.
     while h < n {
-        double(lands, h, weight(number(rows, x, ORDER + i)));
-        h = h * 2;
+        let place = number(rows, x, ORDER + i);
+        double(lands, h, 3u16.pow(place as u32));
+        h *= 2;
         i += 1;
     }
     n

@@ -2,7 +2,7 @@
 -- Assumes nothing.
 use mathlib.Core.Path.{◌≡◌, refl, sym, ap, ◌∙◌}
 use mathlib.Core.Bool.{Bool, true, false, ◌&&◌}
-use mathlib.Core.Option.{some}
+use Rattle.std.specs.Prelude.{Some as some}
 use mathlib.Core.List.{List, [], ◌∷◌, ◌++◌, append_assoc, append-nil}
 use Prim.Native.Nat.{ℕ, suc, ◌≤◌, ◌<◌, ◌+◌, ◌*◌, ◌/◌, ◌%◌, ◌-◌}
 use native.Mathlib.Numerals.{add-one}
@@ -52,8 +52,8 @@ snoc_out done old out i r c lt e =
 pub tracing_start : (net : Network) (x d : ℕ) (tab : List ℕ) (K : Kept net (x * 16) d tab) (old : List ℕ) → 1 ≤ d → Tracing net (x * 16) d tab K old old x 0 0
 unfolding layers_of
 tracing_start net x d tab K old pos =
-    let g = K.met.goal pos in
-    let q = least_plan (sys_of net) (x * 16) (layers_of (x * 16) K.before) d g.0 (K.met.layers pos) g.1 g.2 in
+    let g = K.met.goal in
+    let q = least_plan (sys_of net) (x * 16) (layers_of (x * 16) K.before) d g.0 K.met.layers g.1 g.2 in
     let z : x * 16 + 0 ≡ x * 16 = omega arith in
     let y : d - 0 ≡ d = omega arith in
     record {
@@ -105,8 +105,8 @@ module _ (net : Network) (start d : ℕ) (tab : List ℕ) (K : Kept net start d 
 
     next : (c : ℕ) → c < n → (L (suc i) (M.to s c) && can M (d - suc i) (M.to s c)) ≡ can M (d - suc i) (M.to s c)
     next c less =
-        let e = K.met.goal (omega arith) in
-        useful_next M start L d e.0 (K.met.layers (omega arith)) e.1 e.2 i s c lt h.there (omega (arith, choices_are))
+        let e = K.met.goal in
+        useful_next M start L d e.0 K.met.layers e.1 e.2 i s c lt h.there (omega (arith, choices_are))
 
     -- the choice leads to a state kept where the rest of the plan can be done from it
     kept_is : (c : ℕ) → c < n → word_bit (get_or tab (i * 729 + get_or lands c 0) 0) got ≡ can M (d - suc i) (M.to s c)
@@ -129,8 +129,8 @@ module _ (net : Network) (start d : ℕ) (tab : List ℕ) (K : Kept net start d 
     pub tracing_within : r < n
     tracing_within = omega (arith, choices_are, step.within)
 
-    pub tracing_step : 16 ≤ length old → d ≤ 16 → (v y : ℕ) → v ≡ r → y ≡ get_or lands r 0 → Tracing net start d tab K old (set out i v) y got (i + 1)
-    tracing_step long most v y v-is y-is =
+    pub tracing_step : 16 ≤ length old → d ≤ 16 → (y : ℕ) → y ≡ get_or lands r 0 → Tracing net start d tab K old (set out i r) y got (i + 1)
+    tracing_step long most y y-is =
         let z : i + 1 ≡ suc i = add-one i in
         let t-is : M.to s r ≡ y * 16 + got = to_is r tracing_within ∙ ap (λ (q : ℕ). q * 16 + got) (sym y-is) in
         let a : L (suc i) (M.to s r) ≡ true = (and_parts (L (suc i) (M.to s r)) (can M (d - suc i) (M.to s r)) (next r tracing_within ∙ ap is_some step.ahead)).0 in
@@ -142,7 +142,7 @@ module _ (net : Network) (start d : ℕ) (tab : List ℕ) (K : Kept net start d 
           ahead = rw (z, ← t-is) b;
           whole = h.whole ∙ ap some (ap (λ (q : List ℕ). h.done ++ q) step.whole ∙ sym (append_assoc h.done (r ∷ []) step.rest));
           count_is = length-append h.done (r ∷ []) ∙ ap (λ (q : ℕ). q + 1) h.count_is;
-          out_is = rw v-is (snoc_out h.done old out i r h.count_is (omega arith) h.out_is);
+          out_is = snoc_out h.done old out i r h.count_is (omega arith) h.out_is;
         }
 
   pub tracing_end : i ≡ d → PlanTraced net start d old out

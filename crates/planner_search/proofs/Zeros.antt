@@ -4,30 +4,21 @@ use mathlib.Core.Path.{◌≡◌, refl, sym, ap, ◌∙◌}
 use mathlib.Core.List.{List, ◌++◌}
 use Prim.Native.Nat.{ℕ, ◌≤◌, ◌<◌, ◌+◌, ◌-◌}
 use native.Mathlib.Omega.{arith}
-use lib.ListN.{length, get_or, set, drop, replicate, length-append, length-drop, length-replicate, get_or-replicate, get_or-append}
-use lib.Seq.{ext_get_or, get_or-drop, get_or-append-add}
-use borrow.Author.Fill.{fill_more}
+use lib.ListN.{length, get_or, take, drop, replicate, length-append, length-drop, length-replicate, get_or-replicate, get_or-append}
+use lib.Seq.{length-take-le, ext_get_or, get_or-drop, get_or-append-add}
 use Rattle.model.specs.Calls.{write_over, search_entries}
-
--- ---- one entry more
-
-pub zeros_none : (tab : List ℕ) → tab ≡ write_over (replicate 0 0) tab
-unfolding write_over
-zeros_none tab = refl
-
-pub zeros_more : (n : ℕ) (tab t : List ℕ) → n < length tab → t ≡ write_over (replicate n 0) tab → set t n 0 ≡ write_over (replicate (n + 1) 0) tab
-unfolding write_over
-zeros_more n tab t lt e = rw e (simp length-replicate (fill_more n 0 tab lt))
 
 entries : search_entries ≡ 11664
 unfolding search_entries
 entries = refl
 
-pub zeros_all : (i : ℕ) (tab t : List ℕ) → i ≤ 11664 → 11664 ≤ i → t ≡ write_over (replicate i 0) tab → t ≡ write_over (replicate search_entries 0) tab
-zeros_all i tab t a b e = by search_entries entries
+-- zeros put over the first entries
+pub zeros_put : (tab zeros : List ℕ) → 11664 ≤ length tab → zeros ≡ replicate (length (take 11664 tab)) 0 → zeros ++ drop 11664 tab ≡ write_over (replicate search_entries 0) tab
+unfolding write_over
+zeros_put tab zeros long e = by search_entries entries (e ∙ ap (λ (n : ℕ). replicate n 0) (length-take-le 11664 tab long ∙ sym entries))
   where
-    by : (n : ℕ) → n ≡ 11664 → t ≡ write_over (replicate n 0) tab
-    by n z = let q : i ≡ n = omega arith in rw q at e
+    by : (n : ℕ) → n ≡ 11664 → zeros ≡ replicate n 0 → zeros ++ drop 11664 tab ≡ write_over (replicate n 0) tab
+    by n z e = rw (e, ← z) (simp length-replicate)
 
 -- ---- the space cleared
 

@@ -15,27 +15,16 @@ use planner_forward::layers::find_layer;
 use planner_rows::Rows;
 use planner_steering::Problem;
 
-#[derive(Drop)]
-pub enum Found {
-    // The plan has so many operations.
-    Operations(usize),
-    // There is no plan of at most 16 operations.
-    Nothing,
-}
-
 // The search's own entries become 0; the others stay.
 pub fn clear(table: &mut [u16])
     requires { search_size ≤ length table.old }
     ensures { table.new ≡ write_over (replicate search_entries 0) table.old }
 {
-    let mut i = 0;
-    while i < SEARCH_SIZE {
-        table[i] = 0;
-        i += 1;
-    }
+    table[..SEARCH_SIZE].fill(0);
 }
 
-// The search from setting `start`, where `full` is the number of all targets: the choices of the plan go to `out`, one byte each.
+// The search from setting `start`, where `full` is the number of all targets: the count of operations of the plan, whose choices go
+// to `out`, one byte each; None where there is no plan of at most 16 operations.
 pub fn find_plan<'a>(
     nodes: &'a Nodes,
     steering: &'a Words,
@@ -45,7 +34,7 @@ pub fn find_plan<'a>(
     full: usize,
     table: &mut [u16],
     out: &mut [u8],
-) -> Found
+) -> Option<usize>
     requires plannable { Plannable nodes.now steering.now problem }
     requires rows_right { RowsRight nodes.now steering.now problem rows.old }
     requires room { (search_size ≤ length table.old) × (start < max_settings) × (full < 16) × (16 ≤ length out.old) }
@@ -55,13 +44,11 @@ pub fn find_plan<'a>(
     ensures cleared { table.new ≡ write_over (replicate search_entries 0) table.old }
 {
     clear(table);
-    let d = find_layer(nodes, steering, problem, rows, start, full, table);
-    if d == 0 {
-        clear(table);
-        return Found::Nothing;
+    let found = find_layer(nodes, steering, problem, rows, start, full, table);
+    if let Some(d) = found {
+        keep_all(nodes, steering, problem, rows, start, full, table, d);
+        trace(nodes, steering, problem, rows, start, table, d, out);
     }
-    keep_all(nodes, steering, problem, rows, start, full, table, d);
-    trace(nodes, steering, problem, rows, start, table, d, out);
     clear(table);
-    Found::Operations(d)
+    found
 }

@@ -1,5 +1,5 @@
 // The way along the states kept: at each the first choice that leads to one of the next layer.
-ghost use Rattle.std.specs.Prelude.{◌≡◌, true, ℕ, ◌+◌, ◌*◌, ◌≤◌, ◌<◌, length, get_or};
+ghost use Rattle.std.specs.Prelude.{◌≡◌, true, ℕ, ◌+◌, ◌*◌, ◌≤◌, ◌<◌, length, get_or, unwrap_or};
 ghost use Rattle.model.specs.Limits.{max_settings, search_size};
 ghost use Rattle.network_words.specs.Words.{word_bit};
 ghost use Rattle.planner_theory.specs.Search.{FirstAt};
@@ -9,25 +9,23 @@ ghost use Rattle.planner_backward.specs.Keeping.{Kept};
 ghost use Rattle.planner_search.specs.Plans.{PlanTraced};
 
 use model::limits::MAX_SETTINGS;
-use network_path::layout::{Nodes, Words, wide};
+use network_path::layout::{Nodes, Words};
 use planner_rows::{GAIN, Lands, MAX_CHOICES, Rows, know_row, list_lands, number};
 use planner_steering::Problem;
 use planner_table::sets::has;
 
-// The first of n choices that leads to a state of slot i with the targets got; n where none does.
-fn first_choice(table: &[u16], i: usize, lands: &Lands, n: usize, got: usize) -> usize
+// The first of n choices that leads to a state of slot i with the targets got.
+fn first_choice(table: &[u16], i: usize, lands: &Lands, n: usize, got: usize) -> Option<usize>
     requires room { (search_size ≤ length table.now) × (n ≤ 64) × (i < 16) × (got < 16) }
     requires lands_small { (c : ℕ) → c < n → get_or lands.now c 0 < max_settings }
-    ensures { FirstAt (λ (c : ℕ). word_bit (get_or table.now (i * max_settings + get_or lands.now c 0) 0) got ≡ true) n result }
+    ensures { FirstAt (λ (c : ℕ). word_bit (get_or table.now (i * max_settings + get_or lands.now c 0) 0) got ≡ true) n (unwrap_or result n) }
 {
-    let mut c: usize = 0;
-    while c < n {
-        if has(table[i * MAX_SETTINGS + wide(lands[c])], got) {
-            return c;
+    for c in 0..n {
+        if has(table[i * MAX_SETTINGS + usize::from(lands[c])], got) {
+            return Some(c);
         }
-        c += 1;
     }
-    c
+    None
 }
 
 // The choices of the plan of d operations, to the front of out.
@@ -50,15 +48,13 @@ pub fn trace<'a>(
 {
     let mut x = start;
     let mut m: usize = 0;
-    let mut i: usize = 0;
-    while i < d {
+    for i in 0..d {
         know_row(nodes, steering, problem, x, rows);
         let mut lands: Lands = [0; MAX_CHOICES];
         let n = list_lands(rows, x, &mut lands);
-        m = m | number(rows, x, GAIN);
-        let c = first_choice(table, i, &lands, n, m);
-        out[i] = (c % 256) as u8;
-        x = wide(lands[c]);
-        i += 1;
+        m |= number(rows, x, GAIN);
+        let c = first_choice(table, i, &lands, n, m).unwrap();
+        out[i] = c as u8;
+        x = usize::from(lands[c]);
     }
 }

@@ -14,24 +14,22 @@ use Rattle.model.specs.Network.{tabulate}
 use Rattle.model.specs.Path.{ScanPath, bit_value, on}
 use Rattle.network_words.proofs.WordLaws.{value_is}
 use Rattle.network_draft.specs.declared.store.Summary.{Summary}
-use Rattle.network_draft.specs.Represents.{InLimits, target_at}
+use Rattle.network_draft.specs.Represents.{InLimits, stored_at, target_at}
 use Rattle.network_draft.proofs.TargetLaws.{target_names}
 use Rattle.planner_theory.specs.Settings.{base_of}
 use Rattle.planner_theory.specs.Moves.{mask_of, on_path}
-use Rattle.planner_steering.specs.Steering.{pair_at}
+use Rattle.planner_steering.specs.declared.SteeringBit.{SteeringBit}
+use Rattle.planner_steering.specs.Steering.{segment_at, pair_at}
 use Rattle.planner_settings.specs.Route.{MarksOf, BaseBy, MaskBy}
 use Rattle.planner_steering.proofs.Numbering.{front, none_left, all_left, digits_small}
 
 -- ---- one digit
 
+pub power_small : (j : ℕ) → j ≤ 6 → 3 ^ j ≤ 729
+power_small j l = pow-le-pow_right {n = 3} (omega arith) {j = 6} l
+
 pub power_positive : (w j : ℕ) → w ≡ 3 ^ j → 0 < w
 power_positive w j e = omega (arith, pow-le-pow_right {n = 3} (omega arith) {i = 0} {j = j} (omega arith))
-
-pub digit_on : (m d : ℕ) → m ≡ 1 → (0 ≡ cond (eqb m 1) 0 d) × (0 ≤ 2)
-digit_on m d e = (rw (eq-eqb m 1 e), omega arith)
-
-pub digit_off : (m x j w : ℕ) → (m ≡ 1 → ⊥) → w ≡ 3 ^ j → (x / w % 3 ≡ cond (eqb m 1) 0 (x / 3 ^ j % 3)) × (x / w % 3 ≤ 2)
-digit_off m x j w ne e = (rw (ne_eqb m 1 ne) (ap (λ (n : ℕ). x / n % 3) e), omega arith)
 
 -- one digit more
 more_digits : (b k j : ℕ) → 0 < j → j ≤ k → b ^ (k - (j - 1)) ≡ b ^ (k - j) * b
@@ -39,40 +37,40 @@ more_digits b k j lt le = ap (λ (i : ℕ). b ^ i) (let z : k - (j - 1) ≡ suc 
 
 -- ---- the setting with 0 in the steering bits on the path
 
-pub record Based (marks segments : List ℕ) (k x j base : ℕ) : Type 0 where
+pub record Based (marks : List ℕ) (listed : List SteeringBit) (k x j base : ℕ) : Type 0 where
   pub passed : j ≤ k
-  pub is : (p : ScanPath) → MarksOf marks p → (places : List ℕ) → base ≡ base_of (tabulate (pair_at segments places) j (k - j)) p (x / 3 ^ j)
+  pub is : (p : ScanPath) → MarksOf marks p → base ≡ base_of (tabulate (pair_at listed) j (k - j)) p (x / 3 ^ j)
   pub small : base < 3 ^ (k - j)
 
-module _ (marks segments : List ℕ) (k : ℕ) (few : k ≤ 6) (x : ℕ) where
-  pub based_none : Based marks segments k x k 0
+module _ (marks : List ℕ) (listed : List SteeringBit) (k : ℕ) (few : k ≤ 6) (x : ℕ) where
+  pub based_none : Based marks listed k x k 0
   unfolding base_of
-  based_none = record { passed = omega arith; is = λ p m places. rw (none_left (pair_at segments places) k); small = rw (sub_self k) (omega arith) }
+  based_none = record { passed = omega arith; is = λ p m. rw (none_left (pair_at listed) k); small = rw (sub_self k) (omega arith) }
 
-  module _ (j base : ℕ) (b : Based marks segments k x j base) where
+  module _ (j base : ℕ) (b : Based marks listed k x j base) where
     pub based_small : base < 729
     based_small = omega (arith, b.small, digits_small k j few)
 
-    pub based_more : (d : ℕ) → 0 < j → get_or segments (j - 1) 0 ≤ 128 → d ≡ cond (eqb (get_or marks (get_or segments (j - 1) 0) 0) 1) 0 (x / 3 ^ (j - 1) % 3) → d ≤ 2
-        → Based marks segments k x (j - 1) (base * 3 + d)
+    pub based_more : (d : ℕ) → 0 < j → segment_at listed (j - 1) ≤ 128 → d ≡ cond (eqb (get_or marks (segment_at listed (j - 1)) 0) 1) 0 (x / 3 ^ (j - 1) % 3) → d ≤ 2
+        → Based marks listed k x (j - 1) (base * 3 + d)
     unfolding base_of
     based_more d lt within e most =
         let next : x / 3 ^ (j - 1) / 3 ≡ x / 3 ^ j =
         div-div-eq-div-mul x (3 ^ (j - 1)) 3 ∙ ap (λ (n : ℕ). x / n) (sym (pow-suc 3 (j - 1)) ∙ ap (λ (n : ℕ). 3 ^ n) (omega arith)) in
         record {
           passed = omega (arith, b.passed);
-          is = λ p m places.
-              let here : d ≡ cond (on p (get_or segments (j - 1) 0)) 0 (x / 3 ^ (j - 1) % 3) =
-              e ∙ rw (value_is (on p (get_or segments (j - 1) 0)) (get_or marks (get_or segments (j - 1) 0) 0) (m (get_or segments (j - 1) 0) within)) in
-              rw (front (pair_at segments places) k j lt b.passed, next) (omega (arith, here, b.is p m places));
+          is = λ p m.
+              let here : d ≡ cond (on p (segment_at listed (j - 1))) 0 (x / 3 ^ (j - 1) % 3) =
+              e ∙ rw (value_is (on p (segment_at listed (j - 1))) (get_or marks (segment_at listed (j - 1)) 0) (m (segment_at listed (j - 1)) within)) in
+              rw (front (pair_at listed) k j lt b.passed, next) (omega (arith, here, b.is p m));
           small = omega (arith, b.small, more_digits 3 k j lt b.passed);
         }
 
-    pub based_all : j ≤ 0 → BaseBy marks segments k x base
+    pub based_all : j ≤ 0 → BaseBy marks listed k x base
     based_all l =
         let z : j ≡ 0 = omega arith in
         let w : x / 3 ^ j ≡ x = ap (λ (n : ℕ). x / 3 ^ n) z ∙ (let o : x / 1 ≡ x = omega arith in o) in
-        record { is = λ p m places. b.is p m places ∙ rw (all_left (pair_at segments places) k j l, w); small = based_small }
+        record { is = λ p m. b.is p m ∙ rw (all_left (pair_at listed) k j l, w); small = based_small }
 
 -- ---- the targets on the path
 
@@ -91,11 +89,7 @@ module _ (marks : List ℕ) (t : Summary) (in_limits : InLimits t) where
   }
 
   module _ (i mask : ℕ) (q : Masked marks t i mask) where
-    pub masked_small : mask < 16
-    masked_small =
-        omega (arith, q.small, pow-le-pow_right {n = 2} (omega arith) {j = 4} (let z : t.target_count - i ≤ 4 = omega (arith, in_limits.targets_fit) in z))
-
-    pub masked_more : (s : ℕ) → 0 < i → s ≡ get_or t.target_segment (i - 1) 0 → s ≤ 128 → get_or marks s 0 ≤ 1 → Masked marks t (i - 1) (mask * 2 + get_or marks s 0)
+    pub masked_more : (s : ℕ) → 0 < i → s ≡ (stored_at t (i - 1)).segment → s ≤ 128 → get_or marks s 0 ≤ 1 → Masked marks t (i - 1) (mask * 2 + get_or marks s 0)
     unfolding mask_of
     masked_more s lt e within most = record {
       passed = omega (arith, q.passed);
@@ -104,6 +98,3 @@ module _ (marks : List ℕ) (t : Summary) (in_limits : InLimits t) where
           rw (front (target_at ns t) t.target_count i lt q.passed) (omega (arith, here, q.is ns p m));
       small = omega (arith, q.small, more_digits 2 t.target_count i lt q.passed);
     }
-
-    pub masked_all : i ≤ 0 → MaskBy marks t mask
-    masked_all l ns p m = q.is ns p m ∙ rw (all_left (target_at ns t) t.target_count i l)

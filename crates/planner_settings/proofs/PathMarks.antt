@@ -52,9 +52,6 @@ pub record MarkedTo (way : List ℕ) (n i : ℕ) (marks : List ℕ) : Type 0 whe
   pub size : length marks ≡ 129
   pub marked : (ns : List ℕ) → MarksOf marks (scan_path ns (take i way))
 
-pub marked_none : (way : List ℕ) (n : ℕ) (marks : List ℕ) → Unmarked marks → MarkedTo way n 0 marks
-marked_none way n marks b = record { passed = omega arith; size = b.size; marked = λ ns. b.none }
-
 module _ (held way : List ℕ) (n : ℕ) (h : HoldsPath held way n) (i : ℕ) (marks : List ℕ) where
   pub marked_within : (s : ℕ) → i < n → s ≡ get_or way i 0 → s < 129
   marked_within s lt is = (segment_on held way n h i s lt is).below
@@ -67,9 +64,6 @@ module _ (held way : List ℕ) (n : ℕ) (h : HoldsPath held way n) (i : ℕ) (m
         let front : take (i + 1) way ≡ take i way ++ s ∷ [] = rw (add-one i, is) (take-suc way i 0 (omega (arith, h.size, h.count))) in
         rw front (marks_more marks ns (take i way) s p.size (marked_within s lt is) (p.marked ns));
   }
-
-  pub marked_all : n ≤ i → MarkedTo way n i marks → PathMarked way n marks
-  marked_all l p = let z : i ≡ n = omega (arith, p.passed) in record { size = p.size; marked = rw z at p.marked }
 
 -- ---- the marks are 0 or 1
 

@@ -14,26 +14,25 @@ use Rattle.model.specs.Path.{bit_of}
 use Rattle.model.proofs.Lists.{length_tabulate, get_d_tabulate, true_false}
 use Rattle.network_words.specs.Words.{word_width, word_bit}
 use Rattle.network_path.specs.Layout.{node_at, config_of}
-use Rattle.network_path.specs.Answers.{Walkable, told, FindsPath}
-use Rattle.network_path.specs.declared.walk.Walked.{Walked}
+use Rattle.network_path.specs.Answers.{Walked, Walkable, told, FindsPath}
 use Rattle.network_path.proofs.ConfigLaws.{config_bit, at_tabulate, good_most}
 use Rattle.network_path.proofs.StoredLaws.{found_walk, stored_walkable}
 use Rattle.network_words.proofs.WordLaws.{zero_bit}
-use Rattle.network_draft.specs.Represents.{target_at, targets_of}
+use Rattle.network_draft.specs.Represents.{stored_at, target_at, targets_of}
 use Rattle.network_path.proofs.NodeLaws.{node_beyond}
 use Rattle.network_draft.proofs.TargetLaws.{fits_segment, target_names}
 use Rattle.planner_theory.specs.Settings.{Distinct, look_up, walk_at}
 use Rattle.planner_theory.proofs.Steering.{distinct_bits, SteeringBit, steering_bit, bit_listed, get_d_in}
 use Rattle.planner_theory.proofs.SameWalk.{walk_same}
 use Rattle.planner_steering.specs.declared.Problem.{Problem}
-use Rattle.planner_steering.specs.Steering.{steering_of, pair_at, SteeringListed, SetTo}
+use Rattle.planner_steering.specs.Steering.{steering_of, segment_at, bit_number, pair_at, SteeringListed, SetTo}
 use Rattle.planner_settings.specs.Route.{Steers, TargetsWithin, Prepared, Each, WalkIs}
 use Rattle.planner_steering.proofs.Listing.{length_bits}
 use Rattle.planner_steering.proofs.Wording.{pair_at_law}
 
 module _ (net : Network) (ns steering : List ℕ) (pb : Problem) (p : Prepared net ns steering pb) where
   bits_count : length (steering_bits net.nodes) ≡ pb.width
-  bits_count = ap length (sym p.bits_are) ∙ length_bits pb.segments pb.places pb.width
+  bits_count = ap length (sym p.bits_are) ∙ length_bits pb.steering pb.width
 
   pub planned_few : length (steering_bits net.nodes) ≤ 6
   planned_few = omega (arith, bits_count, p.few)
@@ -50,28 +49,28 @@ module _ (net : Network) (ns steering : List ℕ) (pb : Problem) (p : Prepared n
   len_most zero a b = absurd (not-suc-le-zero a)
   len_most (suc n) a b = good_most net.nodes (suc n) (get_or net.nodes n no_node) (p.accepted.wf.backwards n b)
 
-  bit_of_law : (j : ℕ) → j < pb.width → SteeringBit net.nodes (pair_at pb.segments pb.places j)
+  bit_of_law : (j : ℕ) → j < pb.width → SteeringBit net.nodes (pair_at pb.steering j)
   bit_of_law j l =
-      steering_bit net.nodes (pair_at pb.segments pb.places j)
-      (subst (Memᴰ (pair_at pb.segments pb.places j)) p.bits_are
-      (subst (λ (q : ℕ × ℕ). Memᴰ q (steering_of pb)) (pair_at_law pb.segments pb.places pb.width j l) (get_d_in (steering_of pb) j (0, 0) (omega (arith, length_bits pb.segments pb.places pb.width)))))
+      steering_bit net.nodes (pair_at pb.steering j)
+      (subst (Memᴰ (pair_at pb.steering j)) p.bits_are
+      (subst (λ (q : ℕ × ℕ). Memᴰ q (steering_of pb)) (pair_at_law pb.steering pb.width j l) (get_d_in (steering_of pb) j (0, 0) (omega (arith, length_bits pb.steering pb.width)))))
 
   -- what `set_words` asks
   pub planned_listed : SteeringListed pb
   planned_listed = record {
     few = p.few;
     within = λ j l. omega (arith, (bit_of_law j l).most, as_many, p.stored.most);
-    inside = λ j l. let q = bit_of_law j l in omega (arith, q.inside, len_most (get_or pb.segments j 0) q.least q.most);
+    inside = λ j l. let q = bit_of_law j l in omega (arith, q.inside, len_most (segment_at pb.steering j) q.least q.most);
     distinct = subst Distinct (sym p.bits_are) (distinct_bits net.nodes);
   }
 
   -- the word of a steering bit has that bit, so it is not 0
-  pub planned_steers : Steers steering pb.segments pb.width
+  pub planned_steers : Steers steering pb.steering pb.width
   planned_steers j l e =
       let q = planned_listed in
-      let bit : word_bit (get_or steering (get_or pb.segments j 0) 0) (get_or pb.places j 0) ≡ true =
-      p.steering_is (get_or pb.segments j 0) (get_or pb.places j 0) (q.within j l) (q.inside j l) ∙ (bit_of_law j l).steering in
-      true_false (sym bit ∙ ap (λ (w : ℕ). word_bit w (get_or pb.places j 0)) e ∙ zero_bit (get_or pb.places j 0))
+      let bit : word_bit (get_or steering (segment_at pb.steering j) 0) (bit_number pb.steering j) ≡ true =
+      p.steering_is (segment_at pb.steering j) (bit_number pb.steering j) (q.within j l) (q.inside j l) ∙ (bit_of_law j l).steering in
+      true_false (sym bit ∙ ap (λ (w : ℕ). word_bit w (bit_number pb.steering j)) e ∙ zero_bit (bit_number pb.steering j))
 
   -- ---- the targets
 
@@ -82,7 +81,7 @@ module _ (net : Network) (ns steering : List ℕ) (pb : Problem) (p : Prepared n
       subst (Memᴰ (target_at ns pb.summary i)) (sym p.targets_are) (subst (λ (x : Target). Memᴰ x (targets_of ns pb.summary)) e m)
 
   pub planned_targets : TargetsWithin pb.summary
-  planned_targets i l = by (get_or pb.summary.target_segment i 0) (sym (target_names ns pb.summary i)) (dec_lt 128 (get_or pb.summary.target_segment i 0))
+  planned_targets i l = by (stored_at pb.summary i).segment (sym (target_names ns pb.summary i)) (dec_lt 128 (stored_at pb.summary i).segment)
     where
       fits : is_segment (at net.nodes (target_segment (target_at ns pb.summary i)) no_node) ≡ true
       fits = fits_segment net.nodes (target_at ns pb.summary i) (p.accepted.targets_fit.fits (target_at ns pb.summary i) (target_in i l))

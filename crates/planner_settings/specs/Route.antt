@@ -7,15 +7,15 @@ use Rattle.model.specs.Path.{ScanPath, bit_value, on}
 use Rattle.model.specs.Accepted.{Accepted}
 use Rattle.network_words.specs.Words.{word_width, word_bit}
 use Rattle.network_path.specs.Layout.{scan_path, node_numbers}
-use Rattle.network_path.specs.Answers.{told, WalkHeld}
-use Rattle.network_path.specs.declared.walk.Walked.{Walked}
+use Rattle.network_path.specs.Answers.{Walked, told, WalkHeld}
 use Rattle.network_path.specs.Stored.{Stored}
 use Rattle.network_draft.specs.declared.store.Summary.{Summary}
-use Rattle.network_draft.specs.Represents.{InLimits, targets_of}
+use Rattle.network_draft.specs.Represents.{InLimits, stored_at, targets_of}
 use Rattle.planner_theory.specs.Settings.{walk_at, indices_in, order, base_of}
 use Rattle.planner_theory.specs.Moves.{mask_of, on_path}
 use Rattle.planner_steering.specs.declared.Problem.{Problem}
-use Rattle.planner_steering.specs.Steering.{bits_of, steering_of}
+use Rattle.planner_steering.specs.declared.SteeringBit.{SteeringBit}
+use Rattle.planner_steering.specs.Steering.{segment_at, bits_of, steering_of}
 
 -- ---- marks of the segments on a path
 
@@ -37,38 +37,38 @@ pub record PathMarked (way : List ℕ) (n : ℕ) (marks : List ℕ) : Type 0 whe
 abbrev pub Flags : List ℕ → Type 0
 Flags marks = (s : ℕ) → s ≤ max_nodes → get_or marks s 0 ≤ 1
 
--- ---- the steering bits on a path. They are told by their segments, so the places do not matter
+-- ---- the steering bits on a path
 
 -- room for the indices of the steering bits of segment s behind the first n
-abbrev pub Room : List ℕ → ℕ → ℕ → ℕ → Type 0
-Room segments k s n = (places : List ℕ) → n + length (indices_in 0 (bits_of segments places k) s) ≤ 6
+abbrev pub Room : List SteeringBit → ℕ → ℕ → ℕ → Type 0
+Room listed k s n = n + length (indices_in 0 (bits_of listed k) s) ≤ 6
 
 -- the first n, then the indices of the steering bits of segment s, are now the first r
-pub record IndicesBehind (segments : List ℕ) (k s : ℕ) (old : List ℕ) (n : ℕ) (new : List ℕ) (r : ℕ) : Type 0 where
-  pub lists : (places : List ℕ) → take r new ≡ take n old ++ indices_in 0 (bits_of segments places k) s
+pub record IndicesBehind (listed : List SteeringBit) (k s : ℕ) (old : List ℕ) (n : ℕ) (new : List ℕ) (r : ℕ) : Type 0 where
+  pub lists : take r new ≡ take n old ++ indices_in 0 (bits_of listed k) s
   pub most : r ≤ 6
   pub sized : length new ≡ 6
 
 -- a segment with a steering bit has a word of steering bits that is not 0
-abbrev pub Steers : List ℕ → List ℕ → ℕ → Type 0
-Steers steering segments k = (j : ℕ) → j < k → get_or steering (get_or segments j 0) 0 ≡ 0 → ⊥
+abbrev pub Steers : List ℕ → List SteeringBit → ℕ → Type 0
+Steers steering listed k = (j : ℕ) → j < k → get_or steering (segment_at listed j) 0 ≡ 0 → ⊥
 
 -- the first r are the indices of the steering bits on the path of n segments
-pub record Ordered (segments : List ℕ) (k : ℕ) (way : List ℕ) (n : ℕ) (new : List ℕ) (r : ℕ) : Type 0 where
-  pub lists : (ns places : List ℕ) → take r new ≡ order (bits_of segments places k) (scan_path ns (take n way))
+pub record Ordered (listed : List SteeringBit) (k : ℕ) (way : List ℕ) (n : ℕ) (new : List ℕ) (r : ℕ) : Type 0 where
+  pub lists : (ns : List ℕ) → take r new ≡ order (bits_of listed k) (scan_path ns (take n way))
   pub most : r ≤ 6
   pub sized : length new ≡ 6
 
 -- ---- numbers by the marks of a path
 
 -- the number of setting x with 0 in the steering bits on the path
-pub record BaseBy (marks segments : List ℕ) (k x r : ℕ) : Type 0 where
-  pub is : (p : ScanPath) → MarksOf marks p → (places : List ℕ) → r ≡ base_of (bits_of segments places k) p x
+pub record BaseBy (marks : List ℕ) (listed : List SteeringBit) (k x r : ℕ) : Type 0 where
+  pub is : (p : ScanPath) → MarksOf marks p → r ≡ base_of (bits_of listed k) p x
   pub small : r < max_settings
 
 -- each target's segment is the number of a node
 abbrev pub TargetsWithin : Summary → Type 0
-TargetsWithin t = (i : ℕ) → i < t.target_count → get_or t.target_segment i 0 ≤ max_nodes
+TargetsWithin t = (i : ℕ) → i < t.target_count → (stored_at t i).segment ≤ max_nodes
 
 -- the targets on the path, a binary digit for each
 abbrev pub MaskBy : List ℕ → Summary → ℕ → Type 0

@@ -14,37 +14,32 @@ use Rattle.model.specs.Path.{bit_value}
 use Rattle.model.proofs.Lists.{length_tabulate, tabulate_cong, tabulate_snoc}
 use Rattle.network_words.specs.Words.{word_width, word_bit}
 use Rattle.network_path.specs.Layout.{node_at, nodes_of}
-use Rattle.planner_steering.specs.Steering.{pair_at, bits_of, Pairs, marked_in, Behind, Steered}
+use Rattle.planner_steering.specs.declared.SteeringBit.{SteeringBit}
+use Rattle.planner_steering.specs.Steering.{no_bit, pair_at, bits_of, marked_in, Behind, Steered}
 
-pub length_bits : (segments places : List ℕ) (k : ℕ) → length (bits_of segments places k) ≡ k
-length_bits segments places k = length_tabulate (pair_at segments places) 0 k
+pub length_bits : (listed : List SteeringBit) (k : ℕ) → length (bits_of listed k) ≡ k
+length_bits listed k = length_tabulate (pair_at listed) 0 k
 
 -- one bit more
-bits_more : (segments places : List ℕ) (m s b : ℕ) → m < length segments → m < length places → bits_of (set segments m s) (set places m b) (m + 1) ≡ bits_of segments places m ++ (s, b) ∷ []
-bits_more segments places m s b hs hp =
-    let before : tabulate (pair_at (set segments m s) (set places m b)) 0 m ≡ bits_of segments places m =
-    tabulate_cong (pair_at (set segments m s) (set places m b)) (pair_at segments places) 0 m
-    (λ x l. rw (get_or-set_other segments m (0 + x) s 0 (λ z. omega arith), get_or-set_other places m (0 + x) b 0 (λ z. omega arith))) in
-    let last : pair_at (set segments m s) (set places m b) (0 + m) ≡ (s, b) =
-    ap (pair_at (set segments m s) (set places m b)) (zero-add m) ∙ rw (get_or-set_same segments m s 0 hs, get_or-set_same places m b 0 hp) in
-    rw (add-one m) (tabulate_snoc (pair_at (set segments m s) (set places m b)) 0 m ∙ rw (before, last))
+bits_more : (listed : List SteeringBit) (m s b : ℕ) → m < length listed → bits_of (set listed m record { segment = s; bit = b }) (m + 1) ≡ bits_of listed m ++ (s, b) ∷ []
+bits_more listed m s b h =
+    let new = set listed m record { segment = s; bit = b } in
+    let before : tabulate (pair_at new) 0 m ≡ bits_of listed m =
+    tabulate_cong (pair_at new) (pair_at listed) 0 m (λ x l. ap (λ (p : SteeringBit). (p.segment, p.bit)) (get_or-set_other listed m (0 + x) record { segment = s; bit = b } no_bit (λ z. omega arith))) in
+    let last : pair_at new (0 + m) ≡ (s, b) = ap (pair_at new) (zero-add m) ∙ ap (λ (p : SteeringBit). (p.segment, p.bit)) (get_or-set_same listed m record { segment = s; bit = b } no_bit h) in
+    rw (add-one m) (tabulate_snoc (pair_at new) 0 m ∙ rw (before, last))
 
 -- ---- the bits of one segment: those listed and those to come make the whole
 
-pub record Marking (w len s : ℕ) (segments₀ places₀ : List ℕ) (n b : ℕ) (segments places : List ℕ) (m : ℕ) : Type 0 where
+pub record Marking (w len s : ℕ) (old : List SteeringBit) (n b : ℕ) (listed : List SteeringBit) (m : ℕ) : Type 0 where
   pub passed : b ≤ len
   pub short : len ≤ word_width
-  pub whole : bits_of segments places m ++ marked_in w s b (len - b) ≡ bits_of segments₀ places₀ n ++ marked_in w s 0 len
-  pub sized : Pairs segments places
+  pub whole : bits_of listed m ++ marked_in w s b (len - b) ≡ bits_of old n ++ marked_in w s 0 len
+  pub sized : length listed ≡ 6
   pub room : m + length (marked_in w s b (len - b)) ≤ 6
 
-module _ (w len s : ℕ) (segments₀ places₀ : List ℕ) (n : ℕ) where
-  pub marking_none : len ≤ word_width → n + length (marked_in w s 0 len) ≤ 6 → Pairs segments₀ places₀ → Marking w len s segments₀ places₀ n 0 segments₀ places₀ n
-  marking_none short room sized =
-      let e : len - 0 ≡ len = omega arith in
-      record { passed = omega arith; short = short; whole = rw e; sized = sized; room = rw e room }
-
-  module _ (b : ℕ) (segments places : List ℕ) (m : ℕ) (lt : b < len) (p : Marking w len s segments₀ places₀ n b segments places m) where
+module _ (w len s : ℕ) (old : List SteeringBit) (n : ℕ) where
+  module _ (b : ℕ) (listed : List SteeringBit) (m : ℕ) (lt : b < len) (p : Marking w len s old n b listed m) where
     step : marked_in w s b (len - b) ≡ cond (word_bit w b) ((s, b) ∷ marked_in w s (b + 1) (len - (b + 1))) (marked_in w s (b + 1) (len - (b + 1)))
     unfolding marked_in
     step = let e : len - b ≡ suc (len - (b + 1)) = omega arith in rw (e, add-one b) refl
@@ -69,35 +64,35 @@ module _ (w len s : ℕ) (segments₀ places₀ : List ℕ) (n : ℕ) where
         let here : marked_in w s b (len - b) ≡ (s, b) ∷ marked_in w s (b + 1) (len - (b + 1)) = step ∙ rw (set_is r e f) in
         omega (arith, p.room, ap length here)
 
-    pub marking_set : (r : ℕ) → r ≡ bit_value (word_bit w b) → r ≡ 1 → Marking w len s segments₀ places₀ n (b + 1) (set segments m s) (set places m b) (m + 1)
+    pub marking_set : (r : ℕ) → r ≡ bit_value (word_bit w b) → r ≡ 1 → Marking w len s old n (b + 1) (set listed m record { segment = s; bit = b }) (m + 1)
     marking_set r e f =
         let here : marked_in w s b (len - b) ≡ (s, b) ∷ marked_in w s (b + 1) (len - (b + 1)) = step ∙ rw (set_is r e f) in
         let small : m < 6 = marking_room r e f in
         record {
           passed = omega arith;
           short = p.short;
-          whole = ap (λ (l : List (ℕ × ℕ)). l ++ marked_in w s (b + 1) (len - (b + 1))) (bits_more segments places m s b (omega (arith, p.sized.segments_size)) (omega (arith, p.sized.places_size)))
-              ∙ append_assoc (bits_of segments places m) ((s, b) ∷ []) (marked_in w s (b + 1) (len - (b + 1))) ∙ ap (λ (l : List (ℕ × ℕ)). bits_of segments places m ++ l) (sym here) ∙ p.whole;
-          sized = record { segments_size = length-set segments m s ∙ p.sized.segments_size; places_size = length-set places m b ∙ p.sized.places_size };
+          whole = ap (λ (l : List (ℕ × ℕ)). l ++ marked_in w s (b + 1) (len - (b + 1))) (bits_more listed m s b (omega (arith, p.sized)))
+              ∙ append_assoc (bits_of listed m) ((s, b) ∷ []) (marked_in w s (b + 1) (len - (b + 1))) ∙ ap (λ (l : List (ℕ × ℕ)). bits_of listed m ++ l) (sym here) ∙ p.whole;
+          sized = length-set listed m record { segment = s; bit = b } ∙ p.sized;
           room = omega (arith, p.room, ap length here);
         }
 
-    pub marking_clear : (r : ℕ) → r ≡ bit_value (word_bit w b) → (r ≡ 1 → ⊥) → Marking w len s segments₀ places₀ n (b + 1) segments places m
+    pub marking_clear : (r : ℕ) → r ≡ bit_value (word_bit w b) → (r ≡ 1 → ⊥) → Marking w len s old n (b + 1) listed m
     marking_clear r e f =
         let here : marked_in w s b (len - b) ≡ marked_in w s (b + 1) (len - (b + 1)) = step ∙ rw (clear_is r e f) in
         record {
           passed = omega arith;
           short = p.short;
-          whole = ap (λ (l : List (ℕ × ℕ)). bits_of segments places m ++ l) (sym here) ∙ p.whole;
+          whole = ap (λ (l : List (ℕ × ℕ)). bits_of listed m ++ l) (sym here) ∙ p.whole;
           sized = p.sized;
           room = omega (arith, p.room, ap length here);
         }
 
-  pub marking_all : (b : ℕ) (segments places : List ℕ) (m : ℕ) → len ≤ b → Marking w len s segments₀ places₀ n b segments places m → Behind segments₀ places₀ n (marked_in w s 0 len) segments places m
+  pub marking_all : (b : ℕ) (listed : List SteeringBit) (m : ℕ) → len ≤ b → Marking w len s old n b listed m → Behind old n (marked_in w s 0 len) listed m
   unfolding marked_in
-  marking_all b segments places m l p =
+  marking_all b listed m l p =
       let e : len - b ≡ 0 = omega arith in
-      record { lists = sym (append-nil (bits_of segments places m)) ∙ (rw e at p.whole); sized = p.sized }
+      record { lists = sym (append-nil (bits_of listed m)) ∙ (rw e at p.whole); sized = p.sized }
 
 -- ---- the segments in turn
 
@@ -106,11 +101,11 @@ unfoldable pub marked_from : List ℕ → List ℕ → ℕ → ℕ → List (ℕ
 marked_from ns steering s zero = []
 marked_from ns steering s (suc n) = marked_in (get_or steering s 0) s 0 (len_of (node_at ns s)) ++ marked_from ns steering (suc s) n
 
-pub record Gathering (ns steering : List ℕ) (count s : ℕ) (segments places : List ℕ) (n : ℕ) : Type 0 where
+pub record Gathering (ns steering : List ℕ) (count s : ℕ) (listed : List SteeringBit) (n : ℕ) : Type 0 where
   pub first : 1 ≤ s
   pub passed : s ≤ count + 1
-  pub whole : bits_of segments places n ++ marked_from ns steering s (count + 1 - s) ≡ marked_from ns steering 1 count
-  pub sized : Pairs segments places
+  pub whole : bits_of listed n ++ marked_from ns steering s (count + 1 - s) ≡ marked_from ns steering 1 count
+  pub sized : length listed ≡ 6
   pub room : n + length (marked_from ns steering s (count + 1 - s)) ≤ 6
 
 -- the words tell the model's steering bits
@@ -132,12 +127,12 @@ module _ (ns steering : List ℕ) (count : ℕ) (p : Steered ns steering count) 
   marked_steering : marked_from ns steering 1 count ≡ steering_bits (nodes_of ns count)
   marked_steering = marked_from_law count 1 (omega arith) (omega arith)
 
-  pub gathering_none : (segments places : List ℕ) → Pairs segments places → Gathering ns steering count 1 segments places 0
-  gathering_none segments places sized =
+  pub gathering_none : (listed : List SteeringBit) → length listed ≡ 6 → Gathering ns steering count 1 listed 0
+  gathering_none listed sized =
       let e : count + 1 - 1 ≡ count = omega arith in
       record { first = omega arith; passed = omega arith; whole = rw e; sized = sized; room = rw e (omega (arith, ap length marked_steering, p.few)) }
 
-  module _ (s : ℕ) (segments places : List ℕ) (n : ℕ) (g : Gathering ns steering count s segments places n) where
+  module _ (s : ℕ) (listed : List SteeringBit) (n : ℕ) (g : Gathering ns steering count s listed n) where
     from_step : s ≤ count → marked_from ns steering s (count + 1 - s) ≡ marked_in (get_or steering s 0) s 0 (len_of (node_at ns s)) ++ marked_from ns steering (s + 1) (count + 1 - (s + 1))
     unfolding marked_from
     from_step l = let e : count + 1 - s ≡ suc (count + 1 - (s + 1)) = omega arith in rw (e, add-one s) refl
@@ -150,25 +145,25 @@ module _ (ns steering : List ℕ) (count : ℕ) (p : Steered ns steering count) 
     pub gathering_short : (len : ℕ) → s ≤ count → len ≡ len_of (node_at ns s) → len ≤ word_width
     gathering_short len l e = omega (arith, p.short s g.first l)
 
-    pub gathering_more : (len : ℕ) (segments' places' : List ℕ) (r : ℕ) → s ≤ count → len ≡ len_of (node_at ns s)
-        → Behind segments places n (marked_in (get_or steering s 0) s 0 len) segments' places' r → Gathering ns steering count (s + 1) segments' places' r
-    gathering_more len segments' places' r l e q =
+    pub gathering_more : (len : ℕ) (new : List SteeringBit) (r : ℕ) → s ≤ count → len ≡ len_of (node_at ns s)
+        → Behind listed n (marked_in (get_or steering s 0) s 0 len) new r → Gathering ns steering count (s + 1) new r
+    gathering_more len new r l e q =
         let M = marked_in (get_or steering s 0) s 0 (len_of (node_at ns s)) in
         let F = marked_from ns steering (s + 1) (count + 1 - (s + 1)) in
-        let lists : bits_of segments' places' r ≡ bits_of segments places n ++ marked_in (get_or steering s 0) s 0 (len_of (node_at ns s)) = rw e at q.lists in
-        let whole : bits_of segments' places' r ++ F ≡ marked_from ns steering 1 count =
-        ap (λ (l : List (ℕ × ℕ)). l ++ F) lists ∙ append_assoc (bits_of segments places n) M F ∙ ap (λ (l : List (ℕ × ℕ)). bits_of segments places n ++ l) (sym (from_step l)) ∙ g.whole in
+        let lists : bits_of new r ≡ bits_of listed n ++ marked_in (get_or steering s 0) s 0 (len_of (node_at ns s)) = rw e at q.lists in
+        let whole : bits_of new r ++ F ≡ marked_from ns steering 1 count =
+        ap (λ (l : List (ℕ × ℕ)). l ++ F) lists ∙ append_assoc (bits_of listed n) M F ∙ ap (λ (l : List (ℕ × ℕ)). bits_of listed n ++ l) (sym (from_step l)) ∙ g.whole in
         record {
           first = omega arith;
           passed = omega arith;
           whole = whole;
           sized = q.sized;
-          room = omega (arith, ap length whole, length-append (bits_of segments' places' r) F, length_bits segments' places' r, ap length marked_steering, p.few);
+          room = omega (arith, ap length whole, length-append (bits_of new r) F, length_bits new r, ap length marked_steering, p.few);
         }
 
-    pub gathering_all : count < s → (bits_of segments places n ≡ steering_bits (nodes_of ns count)) × (n ≤ 6)
+    pub gathering_all : count < s → (bits_of listed n ≡ steering_bits (nodes_of ns count)) × (n ≤ 6)
     unfolding marked_from
     gathering_all l =
         let e : count + 1 - s ≡ 0 = omega arith in
-        let lists : bits_of segments places n ≡ steering_bits (nodes_of ns count) = sym (append-nil (bits_of segments places n)) ∙ (rw e at g.whole) ∙ marked_steering in
+        let lists : bits_of listed n ≡ steering_bits (nodes_of ns count) = sym (append-nil (bits_of listed n)) ∙ (rw e at g.whole) ∙ marked_steering in
         (lists, omega (arith, g.room))

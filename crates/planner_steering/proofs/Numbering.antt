@@ -2,7 +2,7 @@
 -- Assumes nothing.
 use mathlib.Core.Path.{◌≡◌, refl, sym, ap, ◌∙◌}
 use mathlib.Core.Bool.{Bool, true, false, cond}
-use mathlib.Core.Option.{none, some}
+use Rattle.std.specs.Prelude.{None as none, Some as some}
 use mathlib.Core.List.{List, [], ◌∷◌}
 use Prim.Native.Nat.{ℕ, suc, ◌+◌, ◌*◌, ◌-◌, ◌^◌, ◌≤◌, ◌<◌}
 use native.Mathlib.Nat.{pow-le-pow_right, sub_self}
@@ -14,24 +14,8 @@ use Rattle.model.proofs.Lists.{length_tabulate}
 use Rattle.network_words.specs.Words.{word_bit, trit_at}
 use Rattle.planner_theory.specs.Settings.{digit_of, Look, setting_of}
 use Rattle.planner_theory.proofs.SettingNumbers.{setting_small}
-use Rattle.planner_steering.specs.Steering.{pair_at, bits_of}
-
--- ---- one digit
-
-pub digit_none : (bits known b r : ℕ) → r ≡ bit_value (word_bit known b) → r ≡ 0 → (2 ≡ digit_of (trit_at bits known b)) × (2 ≤ 2)
-digit_none bits known b r e f = (by (word_bit known b) (sym e ∙ f), omega arith)
-  where
-    by : (t : Bool) → bit_value t ≡ 0 → 2 ≡ digit_of (cond t (some (word_bit bits b)) none)
-    by true q = absurd (omega arith)
-    by false q = refl
-
-pub digit_some : (bits known b r d : ℕ) → r ≡ bit_value (word_bit known b) → (r ≡ 0 → ⊥) → d ≡ bit_value (word_bit bits b) → (d ≡ digit_of (trit_at bits known b)) × (d ≤ 2)
-digit_some bits known b r d e f g = by (word_bit known b) (word_bit bits b) (sym e) g
-  where
-    by : (t u : Bool) → bit_value t ≡ r → d ≡ bit_value u → (d ≡ digit_of (cond t (some u) none)) × (d ≤ 2)
-    by true true p q = (q, omega arith)
-    by true false p q = (q, omega arith)
-    by false u p q = absurd (f (sym p))
+use Rattle.planner_steering.specs.declared.SteeringBit.{SteeringBit}
+use Rattle.planner_steering.specs.Steering.{segment_at, bit_number, pair_at, bits_of}
 
 -- ---- the list from j on
 
@@ -54,27 +38,24 @@ digits_small k j l = pow-le-pow_right {n = 3} (omega arith) {j = 6} (let z : k -
 
 -- ---- the number of a setting
 
-pub record Numbered (segments places : List ℕ) (k : ℕ) (look : Look) (j n : ℕ) : Type 0 where
+pub record Numbered (listed : List SteeringBit) (k : ℕ) (look : Look) (j n : ℕ) : Type 0 where
   pub passed : j ≤ k
-  pub is : n ≡ setting_of (tabulate (pair_at segments places) j (k - j)) look
+  pub is : n ≡ setting_of (tabulate (pair_at listed) j (k - j)) look
   pub small : n < 729
 
-module _ (segments places : List ℕ) (k : ℕ) (few : k ≤ 6) (look : Look) where
-  numbered_small : (j : ℕ) → setting_of (tabulate (pair_at segments places) j (k - j)) look < 729
+module _ (listed : List SteeringBit) (k : ℕ) (few : k ≤ 6) (look : Look) where
+  numbered_small : (j : ℕ) → setting_of (tabulate (pair_at listed) j (k - j)) look < 729
   numbered_small j =
-      omega (arith, setting_small (tabulate (pair_at segments places) j (k - j)) look, digits_small k j few, ap (λ (m : ℕ). 3 ^ m) (length_tabulate (pair_at segments places) j (k - j)))
+      omega (arith, setting_small (tabulate (pair_at listed) j (k - j)) look, digits_small k j few, ap (λ (m : ℕ). 3 ^ m) (length_tabulate (pair_at listed) j (k - j)))
 
-  pub numbered_none : Numbered segments places k look k 0
+  pub numbered_none : Numbered listed k look k 0
   unfolding setting_of
-  numbered_none = record { passed = omega arith; is = rw (none_left (pair_at segments places) k); small = omega arith }
+  numbered_none = record { passed = omega arith; is = rw (none_left (pair_at listed) k); small = omega arith }
 
-  pub numbered_more : (j n d : ℕ) → 0 < j → d ≡ digit_of (look (get_or segments (j - 1) 0) (get_or places (j - 1) 0)) → Numbered segments places k look j n
-      → Numbered segments places k look (j - 1) (n * 3 + d)
+  pub numbered_more : (j n d : ℕ) → 0 < j → d ≡ digit_of (look (segment_at listed (j - 1)) (bit_number listed (j - 1))) → Numbered listed k look j n
+      → Numbered listed k look (j - 1) (n * 3 + d)
   unfolding setting_of
   numbered_more j n d lt e p =
-      let is : n * 3 + d ≡ setting_of (tabulate (pair_at segments places) (j - 1) (k - (j - 1))) look =
-      rw (front (pair_at segments places) k j lt p.passed) (omega (arith, e, p.is)) in
+      let is : n * 3 + d ≡ setting_of (tabulate (pair_at listed) (j - 1) (k - (j - 1))) look =
+      rw (front (pair_at listed) k j lt p.passed) (omega (arith, e, p.is)) in
       record { passed = omega (arith, p.passed); is = is; small = omega (arith, is, numbered_small (j - 1)) }
-
-  pub numbered_all : (j n : ℕ) → j ≤ 0 → Numbered segments places k look j n → n ≡ setting_of (bits_of segments places k) look
-  numbered_all j n l p = p.is ∙ rw (all_left (pair_at segments places) k j l)

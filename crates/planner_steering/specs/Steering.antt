@@ -1,4 +1,4 @@
--- The steering bits in two arrays, by segment and bit, and what the words hold of a setting.
+-- The list of the steering bits, by segment and bit, and what the words hold of a setting.
 -- Assumes nothing.
 use Rattle.std.specs.Prelude.{◌≡◌, cond, ◌&&◌, ◌||◌, ℕ, zero, suc, ◌≤◌, ◌<◌, eqb, ltb, length, get_or}
 use mathlib.Core.List.{List, [], ◌∷◌, ◌++◌, Memᴰ}
@@ -11,25 +11,30 @@ use Rattle.network_draft.specs.declared.store.Summary.{Summary}
 use Rattle.network_draft.specs.Represents.{Short}
 use Rattle.planner_theory.specs.Settings.{Distinct, look_up}
 use Rattle.planner_steering.specs.declared.Problem.{Problem}
+use Rattle.planner_steering.specs.declared.SteeringBit.{SteeringBit}
 
 -- ---- the list
 
--- steering bit j
-abbrev pub pair_at : List ℕ → List ℕ → ℕ → ℕ × ℕ
-pair_at segments places j = (get_or segments j 0, get_or places j 0)
+abbrev pub no_bit : SteeringBit
+no_bit = record { segment = 0; bit = 0 }
+
+-- steering bit j by its segment and the bit there
+abbrev pub segment_at : List SteeringBit → ℕ → ℕ
+segment_at listed j = (get_or listed j no_bit).segment
+
+abbrev pub bit_number : List SteeringBit → ℕ → ℕ
+bit_number listed j = (get_or listed j no_bit).bit
+
+abbrev pub pair_at : List SteeringBit → ℕ → ℕ × ℕ
+pair_at listed j = (segment_at listed j, bit_number listed j)
 
 -- the first k
-abbrev pub bits_of : List ℕ → List ℕ → ℕ → List (ℕ × ℕ)
-bits_of segments places k = tabulate (pair_at segments places) 0 k
+abbrev pub bits_of : List SteeringBit → ℕ → List (ℕ × ℕ)
+bits_of listed k = tabulate (pair_at listed) 0 k
 
 -- the steering bits of a problem
 abbrev pub steering_of : Problem → List (ℕ × ℕ)
-steering_of p = bits_of p.segments p.places p.width
-
--- room for 6
-pub record Pairs (segments places : List ℕ) : Type 0 where
-  pub segments_size : length segments ≡ 6
-  pub places_size : length places ≡ 6
+steering_of p = bits_of p.steering p.width
 
 -- the bits that are set in the word of segment s, from bit b on, among n bits
 unfoldable pub marked_in : ℕ → ℕ → ℕ → ℕ → List (ℕ × ℕ)
@@ -37,9 +42,9 @@ marked_in w s b zero = []
 marked_in w s b (suc n) = let later = marked_in w s (suc b) n in cond (word_bit w b) ((s, b) ∷ later) later
 
 -- the first n, then these, are now the first r
-pub record Behind (segments places : List ℕ) (n : ℕ) (more : List (ℕ × ℕ)) (segments' places' : List ℕ) (r : ℕ) : Type 0 where
-  pub lists : bits_of segments' places' r ≡ bits_of segments places n ++ more
-  pub sized : Pairs segments' places'
+pub record Behind (old : List SteeringBit) (n : ℕ) (more : List (ℕ × ℕ)) (new : List SteeringBit) (r : ℕ) : Type 0 where
+  pub lists : bits_of new r ≡ bits_of old n ++ more
+  pub sized : length new ≡ 6
 
 -- words of steering bits of nodes 1 to count: each bit of a segment that steers is set, and there are at most 6
 pub record Steered (ns steering : List ℕ) (count : ℕ) : Type 0 where
@@ -57,20 +62,20 @@ pub record ProblemOf (ns : List ℕ) (t : Summary) (p : Problem) : Type 0 where
 -- ---- words for a setting
 
 -- each is the number of a node
-abbrev pub Within : List ℕ → ℕ → Type 0
-Within segments k = (j : ℕ) → j < k → get_or segments j 0 ≤ max_nodes
+abbrev pub Within : List SteeringBit → ℕ → Type 0
+Within listed k = (j : ℕ) → j < k → segment_at listed j ≤ max_nodes
 
 -- distinct bits within the words
 pub record SteeringListed (p : Problem) : Type 0 where
   pub few : p.width ≤ 6
-  pub within : Within p.segments p.width
-  pub inside : (j : ℕ) → j < p.width → get_or p.places j 0 < word_width
+  pub within : Within p.steering p.width
+  pub inside : (j : ℕ) → j < p.width → bit_number p.steering j < word_width
   pub distinct : Distinct (steering_of p)
 
-pub record Cleared (segments : List ℕ) (k : ℕ) (bits known : List ℕ) : Type 0 where
+pub record Cleared (listed : List SteeringBit) (k : ℕ) (bits known : List ℕ) : Type 0 where
   pub sized : ConfigSized bits known
-  pub words : (j : ℕ) → j < k → get_or bits (get_or segments j 0) 0 ≡ 0
-  pub marks : (j : ℕ) → j < k → get_or known (get_or segments j 0) 0 ≡ 0
+  pub words : (j : ℕ) → j < k → get_or bits (segment_at listed j) 0 ≡ 0
+  pub marks : (j : ℕ) → j < k → get_or known (segment_at listed j) 0 ≡ 0
 
 -- bit b of segment s has the digit d besides
 pub record DigitSet (bits known : List ℕ) (s b d : ℕ) (bits' known' : List ℕ) : Type 0 where

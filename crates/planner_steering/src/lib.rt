@@ -8,20 +8,26 @@ ghost use Rattle.network_words.specs.Words.{word_width, trit_at};
 ghost use Rattle.network_path.specs.Layout.{nodes_of, look_in};
 ghost use Rattle.network_path.specs.Answers.{ConfigSized};
 ghost use Rattle.planner_theory.specs.Settings.{digit_of, setting_of};
-ghost use Rattle.planner_steering.specs.Steering.{bits_of, steering_of, marked_in, Steered, ProblemOf, Pairs, Behind, Within, SteeringListed, Cleared, DigitSet, SetTo};
+ghost use Rattle.planner_steering.specs.Steering.{bits_of, steering_of, marked_in, Steered, ProblemOf, Behind, Within, SteeringListed, Cleared, DigitSet, SetTo};
 
 use model::limits::MAX_STEERING_BITS;
 use network_draft::store::{Summary, mark_bit};
 use network_path::layout::{Nodes, Words, segment_len};
 use network_words::{Word, bit_at};
 
+// A steering bit by its segment and the bit there.
+#[derive(Clone, Copy)]
+pub struct SteeringBit {
+    pub segment: u16,
+    pub bit: u16,
+}
+
 // What the search asks of a network's record besides its nodes and words of steering bits: its counts and targets, and the list of
-// its steering bits, by segment and bit, with their count, the width of a setting.
+// its steering bits with their count, the width of a setting.
 #[derive(Clone, Copy)]
 pub struct Problem {
     pub summary: Summary,
-    pub segments: [u16; MAX_STEERING_BITS],
-    pub places: [u16; MAX_STEERING_BITS],
+    pub steering: [SteeringBit; MAX_STEERING_BITS],
     pub width: usize,
 }
 
@@ -30,42 +36,38 @@ fn list_segment(
     word: Word,
     len: usize,
     s: usize,
-    segments: &mut [u16; MAX_STEERING_BITS],
-    places: &mut [u16; MAX_STEERING_BITS],
+    listed: &mut [SteeringBit; MAX_STEERING_BITS],
     n: usize,
 ) -> usize
-    requires { (s ≤ max_nodes) × (len ≤ word_width) × (n + length (marked_in word s 0 len) ≤ 6) × Pairs segments.old places.old }
-    ensures { Behind segments.old places.old n (marked_in word s 0 len) segments.new places.new result }
+    requires { (s ≤ max_nodes) × (len ≤ word_width) × (n + length (marked_in word s 0 len) ≤ 6) × (length listed.old ≡ 6) }
+    ensures { Behind listed.old n (marked_in word s 0 len) listed.new result }
 {
     let mut m = n;
-    let mut b: usize = 0;
-    while b < len {
+    for b in 0..len {
         if bit_at(word, b) == 1 {
-            segments[m] = s as u16;
-            places[m] = b as u16;
+            listed[m] = SteeringBit {
+                segment: s as u16,
+                bit: b as u16,
+            };
             m += 1;
         }
-        b += 1;
     }
     m
 }
 
-// The steering bits of nodes 1 to count, by segment and bit, and how many there are.
+// The steering bits of nodes 1 to count, and how many there are.
 fn list_steering<'a>(
     nodes: &'a Nodes,
     steering: &'a Words,
     count: usize,
-    segments: &mut [u16; MAX_STEERING_BITS],
-    places: &mut [u16; MAX_STEERING_BITS],
+    listed: &mut [SteeringBit; MAX_STEERING_BITS],
 ) -> usize
-    requires { Steered nodes.now steering.now count × Pairs segments.old places.old }
-    ensures { (bits_of segments.new places.new result ≡ steering_bits (nodes_of nodes.now count)) × (result ≤ 6) }
+    requires { Steered nodes.now steering.now count × (length listed.old ≡ 6) }
+    ensures { (bits_of listed.new result ≡ steering_bits (nodes_of nodes.now count)) × (result ≤ 6) }
 {
     let mut n: usize = 0;
-    let mut s: usize = 1;
-    while s <= count {
-        n = list_segment(steering[s], segment_len(nodes, s), s, segments, places, n);
-        s += 1;
+    for s in 1..=count {
+        n = list_segment(steering[s], segment_len(nodes, s), s, listed, n);
     }
     n
 }
@@ -75,29 +77,25 @@ pub fn problem_of<'a>(nodes: &'a Nodes, steering: &'a Words, summary: Summary) -
     requires { Steered nodes.now steering.now summary.count }
     ensures { ProblemOf nodes.now summary result }
 {
-    let mut segments = [0u16; MAX_STEERING_BITS];
-    let mut places = [0u16; MAX_STEERING_BITS];
-    let width = list_steering(nodes, steering, summary.count, &mut segments, &mut places);
+    let mut listed = [SteeringBit { segment: 0, bit: 0 }; MAX_STEERING_BITS];
+    let width = list_steering(nodes, steering, summary.count, &mut listed);
     Problem {
         summary,
-        segments,
-        places,
+        steering: listed,
         width,
     }
 }
 
 // The words of the steering segments become 0.
-fn clear_words(bits: &mut Words, known: &mut Words, segments: &[u16; 6], k: usize)
+fn clear_words(bits: &mut Words, known: &mut Words, steering: &[SteeringBit; 6], k: usize)
     requires k_bound { (k ≤ 6) × ConfigSized bits.old known.old }
-    requires within { Within segments.now k }
-    ensures { Cleared segments.now k bits.new known.new }
+    requires within { Within steering.now k }
+    ensures { Cleared steering.now k bits.new known.new }
 {
-    let mut j: usize = 0;
-    while j < k {
-        let s = segments[j] as usize;
+    for j in 0..k {
+        let s = usize::from(steering[j].segment);
         bits[s] = 0;
         known[s] = 0;
-        j += 1;
     }
 }
 
@@ -106,14 +104,12 @@ fn set_digit(bits: &mut Words, known: &mut Words, s: usize, b: usize, d: usize)
     requires { (d < 3) × ConfigSized bits.old known.old }
     ensures { DigitSet bits.old known.old s b d bits.new known.new }
 {
-    if d == 2 {
-        return;
+    if d < 2 {
+        mark_bit(known, s, b);
     }
-    mark_bit(known, s, b);
-    if d == 0 {
-        return;
+    if d == 1 {
+        mark_bit(bits, s, b);
     }
-    mark_bit(bits, s, b);
 }
 
 // The words in which the steering bits have the values of setting x; other bits are free.
@@ -121,15 +117,14 @@ pub fn set_words(bits: &mut Words, known: &mut Words, problem: Problem, x: usize
     requires { SteeringListed problem × ConfigSized bits.old known.old }
     ensures { SetTo (steering_of problem) x bits.new known.new }
 {
-    clear_words(bits, known, &problem.segments, problem.width);
+    clear_words(bits, known, &problem.steering, problem.width);
     let mut y = x;
-    let mut j: usize = 0;
-    while j < problem.width {
-        let s = problem.segments[j] as usize;
-        let b = problem.places[j] as usize;
+    for j in 0..problem.width {
+        let place = problem.steering[j];
+        let s = usize::from(place.segment);
+        let b = usize::from(place.bit);
         set_digit(bits, known, s, b, y % 3);
-        y = y / 3;
-        j += 1;
+        y /= 3;
     }
 }
 
@@ -150,11 +145,10 @@ pub fn setting_number<'a>(bits: &'a Words, known: &'a Words, problem: Problem) -
     ensures { result ≡ setting_of (steering_of problem) (look_in bits.now known.now) }
 {
     let mut n: usize = 0;
-    let mut j = problem.width;
-    while 0 < j {
-        j -= 1;
-        let s = problem.segments[j] as usize;
-        let b = problem.places[j] as usize;
+    for j in (0..problem.width).rev() {
+        let place = problem.steering[j];
+        let s = usize::from(place.segment);
+        let b = usize::from(place.bit);
         n = n * 3 + digit_at(bits[s], known[s], b);
     }
     n

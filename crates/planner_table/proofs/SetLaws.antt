@@ -9,11 +9,10 @@ use native.Mathlib.Decide.{dec_lt}
 use borrow.Author.Tests.{ne_eqb, eqb-true}
 use lib.Bits.{bit_and, bit_or, and_mask, or_lt, or_zero_r}
 use lib.Dec.{eqb}
-use Rattle.model.proofs.Lists.{true_false, eqb_same, or_left, or_right, and_parts, and_false_right, and_true_right, or_false_right}
+use Rattle.model.proofs.Lists.{true_false, eqb_same, or_left, or_right, or_false_right}
 use Rattle.network_words.specs.Words.{word_bit}
-use Rattle.network_words.proofs.WordLaws.{zero_bit}
 use Rattle.network_words.proofs.WordTests.{word_bit_or, word_bit_and, word_bit_pow}
-use Rattle.planner_table.specs.Sets.{JoinedAt, KeptAt, Before, Joined}
+use Rattle.planner_table.specs.Sets.{Before, Joined}
 
 -- ---- one bit
 
@@ -35,12 +34,6 @@ with_one r m y = word_bit_or r (2 ^ m) y ∙ ap (λ (t : Bool). word_bit r y || 
 
 -- ---- each of sets together with g
 
-pub joined_there : (r sets g m o : ℕ) → word_bit sets m ≡ true → o ≡ 2 ^ bit_or m g → JoinedAt r sets g m (bit_or r o)
-joined_there r sets g m o e is y small = rw (e, is) (with_one r (bit_or m g) y)
-
-pub joined_not : (r sets g m : ℕ) → word_bit sets m ≡ false → JoinedAt r sets g m r
-joined_not r sets g m e y small = rw e (sym (or_false_right (word_bit r y)))
-
 -- with no target
 pub joined_alone : (sets g : ℕ) → g ≡ 0 → Joined sets g sets
 joined_alone sets g z = record {
@@ -53,41 +46,34 @@ pub record JoinedBelow (sets g n r : ℕ) : Type 0 where
   pub has : (m : ℕ) → m < n → word_bit sets m ≡ true → word_bit r (bit_or m g) ≡ true
   pub from : (y : ℕ) → y < 16 → word_bit r y ≡ true → Before sets g y
 
-pub joined_none : (sets g : ℕ) → JoinedBelow sets g 0 0
-joined_none sets g = record { has = λ m lt. absurd (omega arith); from = λ y lt e. absurd (true_false (sym e ∙ zero_bit y)) }
-
-pub joined_more : (sets g n r q : ℕ) → g < 16 → n < 16 → JoinedAt r sets g n q → JoinedBelow sets g n r → JoinedBelow sets g (n + 1) q
-joined_more sets g n r q small lt at p = record { has = has; from = from }
+pub joined_in : (sets g n r : ℕ) → n < 16 → word_bit sets n ≡ true → JoinedBelow sets g n r → JoinedBelow sets g (n + 1) (bit_or r (2 ^ bit_or n g))
+joined_in sets g n r lt e p = record { has = has; from = from }
   where
-    has : (m : ℕ) → m < n + 1 → word_bit sets m ≡ true → word_bit q (bit_or m g) ≡ true
-    has m less e =
-        at (bit_or m g) (together_small m g (omega arith) small)
+    has : (m : ℕ) → m < n + 1 → word_bit sets m ≡ true → word_bit (bit_or r (2 ^ bit_or n g)) (bit_or m g) ≡ true
+    has m less f =
+        with_one r (bit_or n g) (bit_or m g)
         ∙ elim (dec_lt m n) [
-          | yes h ↦ or_left (word_bit r (bit_or m g)) (word_bit sets n && eqb (bit_or n g) (bit_or m g)) (p.has m h e)
-          | no h ↦ let z : m ≡ n = omega arith in
-              or_right (word_bit r (bit_or m g)) (word_bit sets n && eqb (bit_or n g) (bit_or m g)) (rw (← z, e) (eqb_same (bit_or m g)))
+          | yes h ↦ or_left (word_bit r (bit_or m g)) (eqb (bit_or n g) (bit_or m g)) (p.has m h f)
+          | no h ↦ let z : m ≡ n = omega arith in or_right (word_bit r (bit_or m g)) (eqb (bit_or n g) (bit_or m g)) (rw z (eqb_same (bit_or n g)))
         ]
 
-    from : (y : ℕ) → y < 16 → word_bit q y ≡ true → Before sets g y
-    from y less e = by (or_cases (word_bit r y) (word_bit sets n && eqb (bit_or n g) y) (sym (at y less) ∙ e))
+    from : (y : ℕ) → y < 16 → word_bit (bit_or r (2 ^ bit_or n g)) y ≡ true → Before sets g y
+    from y less f = by (or_cases (word_bit r y) (eqb (bit_or n g) y) (sym (with_one r (bit_or n g) y) ∙ f))
       where
-        by : (word_bit r y ≡ true) ⊎ ((word_bit sets n && eqb (bit_or n g) y) ≡ true) → Before sets g y
+        by : (word_bit r y ≡ true) ⊎ (eqb (bit_or n g) y ≡ true) → Before sets g y
         by (inl f) = p.from y less f
-        by (inr f) = let b = and_parts (word_bit sets n) (eqb (bit_or n g) y) f in record { from = n; small = lt; is = b.0; makes = eqb-true (bit_or n g) y b.1 }
+        by (inr f) = record { from = n; small = lt; is = e; makes = eqb-true (bit_or n g) y f }
 
-pub joined_all : (sets g n r : ℕ) → 16 ≤ n → JoinedBelow sets g n r → Joined sets g r
-joined_all sets g n r le p = record { has = λ m lt. p.has m (omega arith); from = p.from }
+pub joined_out : (sets g n r : ℕ) → word_bit sets n ≡ false → JoinedBelow sets g n r → JoinedBelow sets g (n + 1) r
+joined_out sets g n r out p = record { has = has; from = p.from }
+  where
+    has : (m : ℕ) → m < n + 1 → word_bit sets m ≡ true → word_bit r (bit_or m g) ≡ true
+    has m less e = elim (dec_lt m n) [
+      | yes h ↦ p.has m h e
+      | no h ↦ let z : m ≡ n = omega arith in absurd (true_false (sym (rw z at e) ∙ out))
+    ]
 
 -- ---- those of sets that together with g are in all
-
-pub kept_there : (r sets g all m o : ℕ) → word_bit sets m ≡ true → word_bit all (bit_or m g) ≡ true → o ≡ 2 ^ m → KeptAt r sets g all m (bit_or r o)
-kept_there r sets g all m o e f is y small = rw (e, f, is) (with_one r m y)
-
-pub kept_not : (r sets g all m : ℕ) → word_bit sets m ≡ false → KeptAt r sets g all m r
-kept_not r sets g all m e y small = rw e (sym (or_false_right (word_bit r y)))
-
-pub kept_off : (r sets g all m : ℕ) → word_bit sets m ≡ true → word_bit all (bit_or m g) ≡ false → KeptAt r sets g all m r
-kept_off r sets g all m e f y small = rw (e, f) (sym (or_false_right (word_bit r y)))
 
 -- with no target
 pub kept_alone : (sets g all : ℕ) → g ≡ 0 → (m : ℕ) → m < 16 → word_bit (bit_and sets all) m ≡ (word_bit sets m && word_bit all (bit_or m g))
@@ -98,24 +84,23 @@ pub record KeptBelow (sets g all n r : ℕ) : Type 0 where
   pub below : (m : ℕ) → m < n → word_bit r m ≡ (word_bit sets m && word_bit all (bit_or m g))
   pub beyond : (m : ℕ) → n ≤ m → m < 16 → word_bit r m ≡ false
 
-pub kept_none : (sets g all : ℕ) → KeptBelow sets g all 0 0
-kept_none sets g all = record { below = λ m lt. absurd (omega arith); beyond = λ m a b. zero_bit m }
-
-pub kept_more : (sets g all n r q : ℕ) → n < 16 → KeptAt r sets g all n q → KeptBelow sets g all n r → KeptBelow sets g all (n + 1) q
-kept_more sets g all n r q lt at p = record { below = below; beyond = λ m a b. other m b (λ z. omega arith) ∙ p.beyond m (omega arith) b }
+pub kept_in : (sets g all n r : ℕ) → word_bit sets n ≡ true → word_bit all (bit_or n g) ≡ true → KeptBelow sets g all n r → KeptBelow sets g all (n + 1) (bit_or r (2 ^ n))
+kept_in sets g all n r e there p = record { below = below; beyond = λ m a b. other m (λ z. omega arith) ∙ p.beyond m (omega arith) b }
   where
-    t : Bool
-    t = word_bit sets n && word_bit all (bit_or n g)
+    other : (m : ℕ) → (n ≡ m → ⊥) → word_bit (bit_or r (2 ^ n)) m ≡ word_bit r m
+    other m ne = with_one r n m ∙ ap (λ (v : Bool). word_bit r m || v) (ne_eqb n m ne) ∙ or_false_right (word_bit r m)
 
-    other : (m : ℕ) → m < 16 → (n ≡ m → ⊥) → word_bit q m ≡ word_bit r m
-    other m b ne = at m b ∙ ap (λ (v : Bool). word_bit r m || (t && v)) (ne_eqb n m ne) ∙ ap (λ (v : Bool). word_bit r m || v) (and_false_right t) ∙ or_false_right (word_bit r m)
-
-    below : (m : ℕ) → m < n + 1 → word_bit q m ≡ (word_bit sets m && word_bit all (bit_or m g))
+    below : (m : ℕ) → m < n + 1 → word_bit (bit_or r (2 ^ n)) m ≡ (word_bit sets m && word_bit all (bit_or m g))
     below m less = elim (dec_lt m n) [
-      | yes h ↦ other m (omega arith) (λ z. omega arith) ∙ p.below m h
-      | no h ↦ let z : m ≡ n = omega arith in
-          rw z (at n lt ∙ ap (λ (v : Bool). v || (t && eqb n n)) (p.beyond n (omega arith) lt) ∙ ap (λ (v : Bool). t && v) (eqb_same n) ∙ and_true_right t)
+      | yes h ↦ other m (λ z. omega arith) ∙ p.below m h
+      | no h ↦ let z : m ≡ n = omega arith in rw (z, e, there) (with_one r n n ∙ or_right (word_bit r n) (eqb n n) (eqb_same n))
     ]
 
-pub kept_all : (sets g all n r : ℕ) → 16 ≤ n → KeptBelow sets g all n r → (m : ℕ) → m < 16 → word_bit r m ≡ (word_bit sets m && word_bit all (bit_or m g))
-kept_all sets g all n r le p m lt = p.below m (omega arith)
+pub kept_out : (sets g all n r : ℕ) → n < 16 → (word_bit sets n && word_bit all (bit_or n g)) ≡ false → KeptBelow sets g all n r → KeptBelow sets g all (n + 1) r
+kept_out sets g all n r lt out p = record { below = below; beyond = λ m a b. p.beyond m (omega arith) b }
+  where
+    below : (m : ℕ) → m < n + 1 → word_bit r m ≡ (word_bit sets m && word_bit all (bit_or m g))
+    below m less = elim (dec_lt m n) [
+      | yes h ↦ p.below m h
+      | no h ↦ let z : m ≡ n = omega arith in rw z (p.beyond n (omega arith) lt ∙ sym out)
+    ]

@@ -44,10 +44,6 @@ SlotKnown net tab i = (s : ℕ) → in_slot tab i s ≡ true → OfSetting net s
 abbrev pub Known : Network → ℕ → List ℕ → ℕ → Type 0
 Known net start tab d = (j s : ℕ) → j ≤ d → layers_of start tab j s ≡ true → OfSetting net s
 
--- the n entries from number `at` on are 0
-abbrev pub NoneFrom : List ℕ → ℕ → ℕ → Type 0
-NoneFrom tab at n = (k : ℕ) → k < n → get_or tab (at + k) 0 ≡ 0
-
 -- the settings from `from` up to r, at most end, have no state in the slot that stands at `at`
 pub record Skipped (tab : List ℕ) (at from end r : ℕ) : Type 0 where
   pub least : from ≤ r

@@ -2,6 +2,7 @@
 -- Assumes nothing.
 use mathlib.Core.Path.{◌≡◌, refl, sym, ap, ◌∙◌, subst}
 use mathlib.Core.List.{List}
+use Rattle.std.specs.Prelude.{Ok, Err, IsOk}
 use Prim.Native.Nat.{ℕ, ◌+◌, ◌≤◌, ◌<◌}
 use native.Mathlib.Omega.{arith}
 use lib.ListN.{length, get_or, take}
@@ -9,9 +10,8 @@ use Rattle.model.specs.Network.{Target, Network, steering_bits}
 use Rattle.model.specs.Path.{path, path_length}
 use Rattle.model.specs.Plan.{wanted}
 use Rattle.network_path.specs.Layout.{scan_path}
-use Rattle.network_path.specs.Answers.{WalkHeld, told}
-use Rattle.network_path.specs.declared.walk.Walked.{Walked}
-use Rattle.network_path.specs.declared.walk.Walked.TheVariants.{Path, Stop as Stopped}
+use Rattle.network_path.specs.Answers.{Walked, WalkHeld, told}
+use Rattle.network_path.specs.declared.walk.PathSize.{PathSize}
 use Rattle.planner_theory.specs.Moves.{land, StepOf}
 use Rattle.planner_theory.specs.Settings.{walk_at}
 use Rattle.planner_theory.proofs.MoveLaws.{settings_within, path_short, land_within}
@@ -140,31 +140,35 @@ module _ {ns steering : List ℕ} {pb : Problem} {start : ℕ} {picked : List �
 
   module _ {i x place : ℕ} {buf : List ℕ} (s : Writing ns steering pb start picked n old i x place buf) where
     module _ (l : i < n) {r : Walked} {way : List ℕ} (w : Each ns steering pb (λ net. WalkIs net ns x r way)) where
-      pub writing_stops : (m : ℕ) → r ≡ Stopped m → Writes ns steering pb start picked n old buf
-      writing_stops m e net cs o = absurd (no_stop (turn_step o.counts (s net cs o).passed l refl) m ((w net o.counts.prepared).tells ∙ ap (told ns way) e))
+      -- the walk ends at scan-in
+      pub writing_walks : {net : Network} {cs : List ℕ} → WritesOf net ns steering pb start picked n old cs → IsOk r
+      writing_walks {net} {cs} o = by r (w net o.counts.prepared).tells
+        where
+          by : (r : Walked) → walk_at net x ≡ told ns way r → IsOk r
+          by (Ok size) e = refl
+          by (Err m) e = absurd (no_stop (turn_step o.counts (s net cs o).passed l refl) m e)
 
-      module _ (m len : ℕ) (e : r ≡ Path m len) where
+      module _ (size : PathSize) (e : r ≡ Ok size) where
+        abbrev m : ℕ
+        m = size.segments
+
         path_walk : {net : Network} → Prepared net ns steering pb → walk_at net x ≡ path (scan_path ns (take m way))
         path_walk {net} p = (w net p).tells ∙ ap (told ns way) e
 
         -- what `put_line` asks
-        path_held : {net : Network} → Prepared net ns steering pb → WalkHeld ns way (Path m len)
+        path_held : {net : Network} → Prepared net ns steering pb → WalkHeld ns way (Ok size)
         path_held {net} p = subst (WalkHeld ns way) e (w net p).holds
 
-        pub writing_room : {net : Network} {cs : List ℕ} → WritesOf net ns steering pb start picked n old cs
-            → HasRoom ns way m (place + 5) buf × (len ≡ path_length (scan_path ns (take m way)))
+        pub writing_room : {net : Network} {cs : List ℕ} → WritesOf net ns steering pb start picked n old cs → HasRoom ns way m (place + 5) buf
         writing_room {net} {cs} o =
             let q = o.counts in
             let f = (s net cs o).passed in
-            let held = path_held q.prepared in (
-              line_room ns way m place buf held.0
-                  (omega (
-                    arith,
-                    (s net cs o).size,
-                    text_room net q.prepared.accepted cs i (get_or picked i 0) (inside q f l) (choice_is q f l refl) (scan_path ns (take m way)) (path_walk q.prepared) (s net cs o) o.room,
-                  )),
-              held.1,
-            )
+            line_room ns way m place buf (path_held q.prepared).0
+            (omega (
+              arith,
+              (s net cs o).size,
+              text_room net q.prepared.accepted cs i (get_or picked i 0) (inside q f l) (choice_is q f l refl) (scan_path ns (take m way)) (path_walk q.prepared) (s net cs o) o.room,
+            ))
 
         pub writing_more : {rows : List ℕ} → RowsRight ns steering pb rows → row_number rows x 0 ≡ 1 → {c : ℕ} → c ≡ get_or picked i 0
             → {h next end : ℕ} {new : List ℕ} → h ≡ row_number rows x 1 → LandIn rows x c next → end ≡ place + (5 + path_length (scan_path ns (take m way)))

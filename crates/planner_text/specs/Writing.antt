@@ -1,18 +1,17 @@
 -- The text of a plan by the choices that the search left.
 -- Assumes nothing.
-use Rattle.std.specs.Prelude.{◌≡◌, List, ℕ, ◌^◌, ◌≤◌, ◌<◌, length, get_or}
+use Rattle.std.specs.Prelude.{◌≡◌, List, ℕ, ◌^◌, ◌≤◌, ◌<◌, length, get_or, Result}
 use Rattle.model.specs.Limits.{max_settings}
 use Rattle.model.specs.Network.{Network, steering_bits}
 use Rattle.model.specs.PlanText.{write_plan}
-use Rattle.model.specs.Result.{Result, ok, refused}
 use Rattle.model.specs.Text.{Bytes}
-use Rattle.model.specs.Calls.{write_over, written, count_of, if_room}
+use Rattle.model.specs.Calls.{write_over, written, count_of as length_of, if_room}
+use Rattle.model.specs.Answers.{count_of}
+use Rattle.model.specs.declared.refusal.Refusal.{Refusal}
 use Rattle.planner_theory.specs.Moves.{land, decode, Follows}
 use Rattle.planner_steering.specs.declared.Problem.{Problem}
 use Rattle.planner_settings.specs.Route.{Prepared}
 use Rattle.planner_rows.specs.Rows.{Lands}
-use Rattle.planner_text.specs.declared.Planned.{Planned}
-use Rattle.planner_text.specs.declared.Planned.TheVariants.{Written, Refused}
 
 -- the setting that choice c leads to from setting x of each network that has row x
 pub record LandIn (rows : List ℕ) (x c r : ℕ) : Type 0 where
@@ -62,16 +61,11 @@ Writes ns steering p start picked n old new =
 
 -- ---- the text, or 13
 
--- number and values of each case
-abbrev pub planned_answer : Planned → Result ℕ
-planned_answer (Written count) = ok count
-planned_answer (Refused number place) = refused number place
-
 -- the answer and the buffer, by the bytes of the text and the room for it
-pub record Given (text : Bytes) (old : List ℕ) (r : Planned) (new : List ℕ) : Type 0 where
-  pub result : planned_answer r ≡ count_of (if_room (length old) text)
+pub record Given (text : Bytes) (old : List ℕ) (r : Result ℕ Refusal) (new : List ℕ) : Type 0 where
+  pub result : count_of r ≡ length_of (if_room (length old) text)
   pub left : new ≡ written (if_room (length old) text) old
 
-abbrev pub GivesText : List ℕ → List ℕ → Problem → ℕ → List ℕ → ℕ → List ℕ → Planned → List ℕ → Type 0
+abbrev pub GivesText : List ℕ → List ℕ → Problem → ℕ → List ℕ → ℕ → List ℕ → Result ℕ Refusal → List ℕ → Type 0
 GivesText ns steering p start picked n old r new =
     (net : Network) (cs : List ℕ) → CountsOf net ns steering p start picked n cs → Given (write_plan (decode net start cs)) old r new

@@ -1,33 +1,19 @@
 // The text of a plan from the choices of the search: its length, then its lines, each along the path of its setting.
 #![tactic(auto)]
 
-ghost use Rattle.std.specs.Prelude.{◌≡◌, ◌<◌};
+ghost use Rattle.std.specs.Prelude.{◌<◌};
 ghost use Rattle.model.specs.Limits.{max_settings};
 ghost use Rattle.planner_rows.specs.Rows.{row_number, RowsRight, Landing};
 ghost use Rattle.planner_text.specs.Writing.{LandIn, Countable, Counts, Writable, Writes, GivesText};
 
 use model::limits::{MAX_NODES, MAX_OPERATIONS};
-use model::refusal;
-use network_path::layout::{NODE_NUMBERS, Nodes, Way, Words, wide};
-use network_path::walk::Walked;
+use model::refusal::{Kind, Refusal};
+use network_path::layout::{NODE_NUMBERS, Nodes, Way, Words};
+use network_path::walk::PathSize;
 use planner_line::{list_wants, put_line};
 use planner_rows::{COUNT, LENGTH, Lands, MAX_CHOICES, Rows, know_row, list_lands, number};
 use planner_settings::walk_setting;
 use planner_steering::Problem;
-
-// The count of bytes written, or a refusal's number and place.
-#[derive(Drop)]
-pub enum Planned {
-    Written(usize),
-    Refused(usize, usize),
-}
-
-// A choice as an index.
-fn as_index(c: u8) -> usize
-    ensures { result ≡ c }
-{
-    c as usize
-}
 
 // The setting that choice c leads to from setting x.
 fn land_of(rows: &Rows, x: usize, c: usize) -> usize
@@ -37,7 +23,7 @@ fn land_of(rows: &Rows, x: usize, c: usize) -> usize
 {
     let mut lands: Lands = [0; MAX_CHOICES];
     list_lands(rows, x, &mut lands);
-    wide(lands[c])
+    usize::from(lands[c])
 }
 
 // The bytes of the text of the first n of the choices in picked, from setting start on.
@@ -57,12 +43,10 @@ fn text_length<'a>(
 {
     let mut sum: usize = 0;
     let mut x = start;
-    let mut i: usize = 0;
-    while i < n {
+    for i in 0..n {
         know_row(nodes, steering, problem, x, rows);
         sum += 5 + number(rows, x, LENGTH);
-        x = land_of(rows, x, as_index(picked[i]));
-        i += 1;
+        x = land_of(rows, x, usize::from(picked[i]));
     }
     sum
 }
@@ -87,18 +71,16 @@ fn write_text<'a>(
     let mut way: Way = [0; MAX_NODES];
     let mut at: usize = 0;
     let mut x = start;
-    let mut i: usize = 0;
-    while i < n {
+    for i in 0..n {
         let walked = walk_setting(nodes, steering, problem, x, &mut way);
-        let Walked::Path(m, len) = walked else {
-            return;
-        };
+        let PathSize { segments, bits } = walked.unwrap();
         know_row(nodes, steering, problem, x, rows);
-        let c = as_index(picked[i]);
+        let c = usize::from(picked[i]);
         let h = number(rows, x, COUNT);
-        at = put_line(nodes, steering, &wants, &way, m, len, plan, at, h, c);
+        at = put_line(
+            nodes, steering, &wants, &way, segments, bits, plan, at, h, c,
+        );
         x = land_of(rows, x, c);
-        i += 1;
     }
 }
 
@@ -112,15 +94,15 @@ pub fn write_plan<'a>(
     picked: &'a [u8; MAX_OPERATIONS],
     n: usize,
     plan: &mut [u8],
-) -> Planned
+) -> Result<usize, Refusal>
     requires countable { Countable nodes.now steering.now problem start picked.now n }
     requires rows_right { RowsRight nodes.now steering.now problem rows.old }
     ensures { GivesText nodes.now steering.now problem start picked.now n plan.old result plan.new }
 {
     let needed = text_length(nodes, steering, problem, rows, start, picked, n);
     if plan.len() < needed {
-        return Planned::Refused(refusal::BUFFER, needed);
+        return Err(Kind::Buffer.at(needed));
     }
     write_text(nodes, steering, problem, rows, start, picked, n, plan);
-    Planned::Written(needed)
+    Ok(needed)
 }

@@ -2,8 +2,7 @@
 -- Assumes nothing.
 use mathlib.Core.Path.{◌≡◌, refl, sym, ap, ◌∙◌}
 use mathlib.Core.Bool.{Bool, true, false, cond, ◌&&◌}
-use mathlib.Core.Option
-use mathlib.Core.Option.{Option, none, some}
+use Rattle.std.specs.Prelude.{Option, None as none, Some as some, option_map}
 use mathlib.Core.List.Memᴰ
 use mathlib.Core.List.{List, [], ◌∷◌, ◌++◌, map, Memᴰ}
 use Prim.Native.Nat.{ℕ, zero, suc, ◌≤◌, ◌<◌, ◌+◌, ◌*◌, ◌/◌, ◌%◌}
@@ -40,8 +39,8 @@ use Rattle.planner_theory.proofs.MoveLaws.{count_path, gain_path, land_path, cou
 
 module _ (go : List Bool → Option Plan) (later : ℕ → Option (List ℕ)) (bits : ℕ → List Bool) (rest : ℕ → List ℕ → Plan) (dec : List ℕ → Plan)
     (dec-is : (c : ℕ) (cs : List ℕ) → dec (c ∷ cs) ≡ bits c ∷ rest c cs) where
-  first_same : (l : List (List Bool)) (i : ℕ) → ((j : ℕ) → j < length l → get_or l j [] ≡ bits (i + j)) → ((j : ℕ) → j < length l → go (bits (i + j)) ≡ Option.map (rest (i + j)) (later (i + j)))
-      → first_of l go ≡ Option.map dec (first_from later i (length l))
+  first_same : (l : List (List Bool)) (i : ℕ) → ((j : ℕ) → j < length l → get_or l j [] ≡ bits (i + j)) → ((j : ℕ) → j < length l → go (bits (i + j)) ≡ option_map (rest (i + j)) (later (i + j)))
+      → first_of l go ≡ option_map dec (first_from later i (length l))
   unfolding first_from
   first_same [] i b e = refl
   first_same (bs ∷ l) i b e =
@@ -49,8 +48,8 @@ module _ (go : List Bool → Option Plan) (later : ℕ → Option (List ℕ)) (b
       (first_same l (suc i) (λ j h. b (suc j) (omega arith) ∙ ap bits (let z : i + suc j ≡ suc i + j = omega arith in z))
       (λ j h. let z : i + suc j ≡ suc i + j = omega arith in rw z at (e (suc j) (omega arith))))
     where
-      by : (o : Option (List ℕ)) → go (bits i) ≡ Option.map (rest i) o → bs ≡ bits i → first_of l go ≡ Option.map dec (first_from later (suc i) (length l))
-          → or_next (starting_with bs (go bs)) (first_of l go) ≡ Option.map dec (or_next (starting_with i o) (first_from later (suc i) (length l)))
+      by : (o : Option (List ℕ)) → go (bits i) ≡ option_map (rest i) o → bs ≡ bits i → first_of l go ≡ option_map dec (first_from later (suc i) (length l))
+          → or_next (starting_with bs (go bs)) (first_of l go) ≡ option_map dec (or_next (starting_with i o) (first_from later (suc i) (length l)))
       by none f z ih = rw (z, f) ih
       by (some cs) f z ih = rw (z, f) (ap some (sym (dec-is i cs)))
 
@@ -118,7 +117,7 @@ module _ (net : Network) (a : Accepted net) where
   state_targets ps c = omega (arith, mask_small (met ps) net.targets, targets_within net a)
 
   same_end : (ps : List ScanPath) (c : Config) → Kept net ps c
-      → if_done (walk net c) (targets_from 1 ps c net.targets) ≡ Option.map (decode net (number_of net c)) (if_goal (M.goal (state_of ps c)))
+      → if_done (walk net c) (targets_from 1 ps c net.targets) ≡ option_map (decode net (number_of net c)) (if_goal (M.goal (state_of ps c)))
   unfolding decode
   same_end ps c k =
       rw (walk_is c, state_setting ps c, state_targets ps c, mask_all (met ps) net.targets)
@@ -128,11 +127,11 @@ module _ (net : Network) (a : Accepted net) where
       x = number_of net c
 
       by : (w : Walk) → walk_at net x ≡ w → (t : Bool) → all (met ps) net.targets ≡ t → (r : Result (List Got)) → targets_from 1 ps c net.targets ≡ r
-          → if_done w r ≡ Option.map (decode net x) (if_goal (ltb 0 (count net x) && t))
+          → if_done w r ≡ option_map (decode net x) (if_goal (ltb 0 (count net x) && t))
       by (stop j) e t f r g = rw (count_stop net x j e)
       by (path p) e t f r g = rw (lt-ltb 0 (count net x) (omega (arith, count_path net x p e, one-le-pow (length (order sb p)) 2 (omega arith)))) (done t f r g)
         where
-          done : (t : Bool) → all (met ps) net.targets ≡ t → (r : Result (List Got)) → targets_from 1 ps c net.targets ≡ r → if_done (path p) r ≡ Option.map (decode net x) (if_goal t)
+          done : (t : Bool) → all (met ps) net.targets ≡ t → (r : Result (List Got)) → targets_from 1 ps c net.targets ≡ r → if_done (path p) r ≡ option_map (decode net x) (if_goal t)
           done true f (ok gs) g = refl
           done false f (refused n q) g = refl
           done false f (ok gs) g = absurd (true_false (sym (if_done_law ps c gs g) ∙ f))
@@ -156,7 +155,7 @@ module _ (net : Network) (a : Accepted net) where
       ∙ ap (λ (n : ℕ). bit_or n (gain net (number_of net c))) (sym (state_targets ps c)))
 
   same_search : (d : ℕ) (ps : List ScanPath) (c : Config) → length c ≡ length net.nodes → Kept net ps c
-      → search_from net d ps c ≡ Option.map (decode net (number_of net c)) (plan_in M d (state_of ps c))
+      → search_from net d ps c ≡ option_map (decode net (number_of net c)) (plan_in M d (state_of ps c))
   unfolding search_from plan_in first_from
   same_search zero ps c size k = same_end ps c k
   same_search (suc d) ps c size k =
@@ -173,44 +172,44 @@ module _ (net : Network) (a : Accepted net) where
 
       by : (w : Walk) → walk_at net x ≡ w
           → ((p : ScanPath) (bs : List Bool) → length (csu p bs c) ≡ length net.nodes → Kept net (ps ++ p ∷ []) (csu p bs c)
-          → next p bs ≡ Option.map (decode net (number_of net (csu p bs c))) (plan_in M d (state_of (ps ++ p ∷ []) (csu p bs c))))
-          → if_valid w (λ p. first_of (fillings net p) (next p)) ≡ Option.map (decode net x) (first_from (λ j. plan_in M d (to j)) 0 (count net x))
+          → next p bs ≡ option_map (decode net (number_of net (csu p bs c))) (plan_in M d (state_of (ps ++ p ∷ []) (csu p bs c))))
+          → if_valid w (λ p. first_of (fillings net p) (next p)) ≡ option_map (decode net x) (first_from (λ j. plan_in M d (to j)) 0 (count net x))
       by (stop j) e ih = rw (count_stop net x j e)
       by (path p) e ih =
           first_same (next p) (λ j. plan_in M d (to j)) (choice_of net p) (λ j. decode net (land net x j)) (decode net x) (λ j cs. decode_step x p e j cs)
           (fillings net p) 0 (λ j h. ap (choice_of net p) (let z : j ≡ 0 + j = omega arith in z)) (λ j h. one (0 + j) (omega arith))
-          ∙ ap (λ (n : ℕ). Option.map (decode net x) (first_from (λ j. plan_in M d (to j)) 0 n)) (choices_are x p e)
+          ∙ ap (λ (n : ℕ). option_map (decode net x) (first_from (λ j. plan_in M d (to j)) 0 n)) (choices_are x p e)
         where
-          one : (j : ℕ) → j < length (fillings net p) → next p (choice_of net p j) ≡ Option.map (decode net (land net x j)) (plan_in M d (to j))
+          one : (j : ℕ) → j < length (fillings net p) → next p (choice_of net p j) ≡ option_map (decode net (land net x j)) (plan_in M d (to j))
           one j h =
               let bs = choice_of net p j in
               let filled = fill_out net p bs (get_d_in (fillings net p) j [] h) in
               ih p bs (length_csu p bs c ∙ size) (kept_op net a.wf a.good ps c p bs (walk_is c ∙ e) size filled.0 filled.1 k)
-              ∙ ap (λ (n : ℕ). Option.map (decode net n) (plan_in M d (state_of (ps ++ p ∷ []) (csu p bs c)))) (number_after c p bs size ∙ sym (land_path net x p e j))
-              ∙ ap (λ (s : ℕ). Option.map (decode net (land net x j)) (plan_in M d s)) (state_after_law ps c p j size e)
+              ∙ ap (λ (n : ℕ). option_map (decode net n) (plan_in M d (state_of (ps ++ p ∷ []) (csu p bs c)))) (number_after c p bs size ∙ sym (land_path net x p e j))
+              ∙ ap (λ (s : ℕ). option_map (decode net (land net x j)) (plan_in M d s)) (state_after_law ps c p j size e)
 
   -- ---- the plan
 
   abbrev start : ℕ
   start = number_of net net.start
 
-  from_start_law : (d : ℕ) → search_from net d [] net.start ≡ Option.map (decode net start) (plan_in M d (start * 16))
+  from_start_law : (d : ℕ) → search_from net d [] net.start ≡ option_map (decode net start) (plan_in M d (start * 16))
   unfolding state_of
   from_start_law d =
       let size : length net.start ≡ length net.nodes = sym (length-map net.start length) ∙ ap length a.wf.starts ∙ length-map net.nodes len_of in
       let s : start * 16 + mask_of (met []) net.targets ≡ start * 16 = omega (arith, met_none net.targets) in
-      same_search d [] net.start size (λ t w n x. absurd (Memᴰ.not-nil x.1)) ∙ ap (λ (n : ℕ). Option.map (decode net start) (plan_in M d n)) s
+      same_search d [] net.start size (λ t w n x. absurd (Memᴰ.not-nil x.1)) ∙ ap (λ (n : ℕ). option_map (decode net start) (plan_in M d n)) s
 
-  least_same : (d n : ℕ) → least_from net d n ≡ Option.map (decode net start) (plan_from M d n (start * 16))
+  least_same : (d n : ℕ) → least_from net d n ≡ option_map (decode net start) (plan_from M d n (start * 16))
   unfolding least_from plan_from
   least_same d zero = from_start_law d
   least_same d (suc n) = rw (from_start_law d, least_same (suc d) n) (by (plan_in M d (start * 16)) (plan_from M (suc d) n (start * 16)))
     where
-      by : (o r : Option (List ℕ)) → or_next (Option.map (decode net start) o) (Option.map (decode net start) r) ≡ Option.map (decode net start) (or_next o r)
+      by : (o r : Option (List ℕ)) → or_next (option_map (decode net start) o) (option_map (decode net start) r) ≡ option_map (decode net start) (or_next o r)
       by none r = refl
       by (some cs) r = refl
 
   -- The planner's plan is that of the search by numbers.
-  pub plan_is : plan_for net ≡ Option.map (decode net start) (plan_up_to M 16 (start * 16))
+  pub plan_is : plan_for net ≡ option_map (decode net start) (plan_up_to M 16 (start * 16))
   unfolding plan_for
   plan_is = least_same 0 16

@@ -3,7 +3,7 @@ use std::env::FillError;
 use std::rt::Env;
 
 // What one argument is.
-#[derive(Drop)]
+#[derive(Clone, Copy, PartialEq, Eq)]
 pub enum Kind {
     Operand,
     StandardInput,
@@ -14,50 +14,43 @@ pub enum Kind {
     Unknown,
 }
 
-// The arguments as far as they are looked at. `decides` is the number of the option that decides, `extra` that of the
-// first operand too many, 0 for none; `first` and `second` are operands by number, 0 for standard input.
+// What an operand names: standard input, or the file that an argument names.
+#[derive(Clone, Copy, PartialEq, Eq)]
+pub enum Operand {
+    StandardInput,
+    Argument(usize),
+}
+
+// The arguments as far as they are looked at.
 #[derive(Clone, Copy)]
 pub struct Scan {
     pub options_ended: bool,
     pub reports: bool,
-    pub decides: usize,
-    pub operands: usize,
-    pub extra: usize,
-    pub first: usize,
-    pub second: usize,
-}
-
-// An argument before `--`.
-fn option_kind(argument: &[u8]) -> Kind {
-    if check::same(argument, b"--") {
-        return Kind::OptionsEnd;
-    }
-    if check::same(argument, b"--help") {
-        return Kind::Help;
-    }
-    if check::same(argument, b"--version") {
-        return Kind::Version;
-    }
-    if check::same(argument, b"--status") {
-        return Kind::Status;
-    }
-    Kind::Unknown
+    // The option that decides, by its number.
+    pub decides: Option<usize>,
+    pub first: Option<Operand>,
+    pub second: Option<Operand>,
+    // The first operand too many, by its number.
+    pub extra: Option<usize>,
 }
 
 fn kind_of(argument: &[u8], options_ended: bool) -> Kind {
-    if check::same(argument, b"-") {
-        return Kind::StandardInput;
+    match argument {
+        b"-" => Kind::StandardInput,
+        [b'-', ..] if !options_ended => option_kind(argument),
+        _ => Kind::Operand,
     }
-    if options_ended {
-        return Kind::Operand;
+}
+
+// An argument before `--` that begins like an option.
+fn option_kind(argument: &[u8]) -> Kind {
+    match argument {
+        b"--" => Kind::OptionsEnd,
+        b"--help" => Kind::Help,
+        b"--version" => Kind::Version,
+        b"--status" => Kind::Status,
+        _ => Kind::Unknown,
     }
-    if argument.len() == 0 {
-        return Kind::Operand;
-    }
-    if argument[0] != b'-' {
-        return Kind::Operand;
-    }
-    option_kind(argument)
 }
 
 // The kind of argument i. Its first bytes tell, as no option is longer.
@@ -72,39 +65,39 @@ pub fn kind_at(rt: &HostRuntime, i: usize, options_ended: bool) -> Kind {
 // Whether there is an argument i.
 fn is_there(rt: &HostRuntime, i: usize) -> bool {
     let mut front = [0u8; 1];
-    match rt.arg(i, &mut front) {
-        Ok(_) | Err(FillError::TooLong) => true,
-        Err(FillError::NotPresent) => false,
-    }
+    !matches!(rt.arg(i, &mut front), Err(FillError::NotPresent))
 }
 
 impl Scan {
-    // With argument i as an operand, which `source` names.
-    fn with_operand(mut self, most: usize, i: usize, source: usize) -> Scan {
-        let operands = self.operands;
-        if operands < most {
-            self.operands = operands + 1;
-            if operands == 0 {
-                self.first = source;
-            } else {
-                self.second = source;
-            }
-        } else if self.extra == 0 {
-            self.extra = i;
+    // The count of operands.
+    pub fn operands(self) -> usize {
+        match (self.first, self.second) {
+            (None, _) => 0,
+            (Some(_), None) => 1,
+            (Some(_), Some(_)) => 2,
         }
-        self
     }
 
-    // With argument i.
-    fn with_argument(mut self, rt: &HostRuntime, most: usize, i: usize) -> Scan {
+    // Argument i as an operand of a program that takes so many at most.
+    fn add_operand(&mut self, most: usize, i: usize, operand: Operand) {
+        if 0 < most && self.first.is_none() {
+            self.first = Some(operand);
+        } else if 1 < most && self.second.is_none() {
+            self.second = Some(operand);
+        } else if self.extra.is_none() {
+            self.extra = Some(i);
+        }
+    }
+
+    // Argument i.
+    fn add(&mut self, rt: &HostRuntime, most: usize, i: usize) {
         match kind_at(rt, i, self.options_ended) {
-            Kind::Operand => return self.with_operand(most, i, i),
-            Kind::StandardInput => return self.with_operand(most, i, 0),
+            Kind::Operand => self.add_operand(most, i, Operand::Argument(i)),
+            Kind::StandardInput => self.add_operand(most, i, Operand::StandardInput),
             Kind::OptionsEnd => self.options_ended = true,
             Kind::Status => self.reports = true,
-            Kind::Help | Kind::Version | Kind::Unknown => self.decides = i,
+            Kind::Help | Kind::Version | Kind::Unknown => self.decides = Some(i),
         }
-        self
     }
 }
 
@@ -113,18 +106,17 @@ pub fn scan_all(rt: &HostRuntime, most: usize) -> Scan {
     let mut scan = Scan {
         options_ended: false,
         reports: false,
-        decides: 0,
-        operands: 0,
-        extra: 0,
-        first: 0,
-        second: 0,
+        decides: None,
+        first: None,
+        second: None,
+        extra: None,
     };
     for i in 1..usize::MAX {
         if !is_there(rt, i) {
             break;
         }
-        scan = scan.with_argument(rt, most, i);
-        if scan.decides != 0 {
+        scan.add(rt, most, i);
+        if scan.decides.is_some() {
             break;
         }
     }

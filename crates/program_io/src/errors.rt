@@ -1,107 +1,64 @@
-// The system's errors, by number and in words. The numbers are Linux's, on x86-64 and aarch64.
-use crate::line::add;
-use crate::write::NOTHING_TAKEN;
-use std::io::Error;
-
-pub const EPERM: i32 = 1;
-
-pub const ENOENT: i32 = 2;
+// The system's errors in words. The numbers are Linux's, on x86-64 and aarch64.
+use std::fmt;
+use std::io::{Error, ErrorKind};
 
 pub const EINTR: i32 = 4;
 
-pub const EIO: i32 = 5;
-
 pub const EBADF: i32 = 9;
 
-pub const EAGAIN: i32 = 11;
-
-pub const ENOMEM: i32 = 12;
-
-pub const EACCES: i32 = 13;
-
-pub const ENOTDIR: i32 = 20;
-
-pub const EISDIR: i32 = 21;
-
-pub const EINVAL: i32 = 22;
-
-pub const EMFILE: i32 = 24;
-
 pub const EFBIG: i32 = 27;
-
-pub const ENOSPC: i32 = 28;
 
 pub const EPIPE: i32 = 32;
 
 pub const ENAMETOOLONG: i32 = 36;
 
-pub const ELOOP: i32 = 40;
-
 pub const EILSEQ: i32 = 84;
 
-// The number of the system's error. Of the library's own errors, as for a path with a byte 0, no program meets one.
-pub fn number(error: Error) -> i32 {
-    match error.raw_os_error() {
-        Some(errno) => errno,
-        None => EIO,
+// An error as messages show it.
+#[derive(Clone, Copy)]
+pub struct Words(pub Error);
+
+impl fmt::Display for Words {
+    fn fmt<W: fmt::Write>(&self, f: &mut fmt::Formatter<W>) -> fmt::Result {
+        match self.0.raw_os_error() {
+            Some(number) => match words_of(number) {
+                Some(words) => f.write_str(words),
+                None => write!(f, "error {}", number),
+            },
+            None => f.write_str(own_words(self.0.kind())),
+        }
     }
 }
 
-// The number of an error; none is negative.
-fn magnitude(error: i32) -> u64 {
-    if error < 0 {
-        return 0;
-    }
-    error as u64
-}
-
-// An error that has no words here, by its number.
-fn add_number(line: &mut [u8], at: usize, error: i32) -> usize {
-    let next = add(line, at, b"error ");
-    let mut digits = [0u8; 20];
-    let n = io::decimal(magnitude(error), &mut digits);
-    add(line, next, &digits[..n])
-}
-
-// An error of a descriptor.
-fn add_descriptor_error(line: &mut [u8], at: usize, error: i32) -> usize {
-    match error {
-        NOTHING_TAKEN => add(line, at, b"nothing was taken"),
-        EINTR => add(line, at, b"Interrupted system call"),
-        EIO => add(line, at, b"Input/output error"),
-        EBADF => add(line, at, b"Bad file descriptor"),
-        EAGAIN => add(line, at, b"Resource temporarily unavailable"),
-        EINVAL => add(line, at, b"Invalid argument"),
-        EFBIG => add(line, at, b"File too large"),
-        ENOSPC => add(line, at, b"No space left on device"),
-        EPIPE => add(line, at, b"Broken pipe"),
-        _ => add_number(line, at, error),
+// The library's own errors: a write that took nothing, and others that no program meets, as that for a path with a byte 0.
+fn own_words(kind: ErrorKind) -> &'static str {
+    match kind {
+        ErrorKind::WriteZero => "nothing was taken",
+        _ => "Input/output error",
     }
 }
 
-// An error of a path, or else of a descriptor.
-fn add_words(line: &mut [u8], at: usize, error: i32) -> usize {
-    match error {
-        EPERM => add(line, at, b"Operation not permitted"),
-        ENOENT => add(line, at, b"No such file or directory"),
-        ENOMEM => add(line, at, b"Cannot allocate memory"),
-        EACCES => add(line, at, b"Permission denied"),
-        ENOTDIR => add(line, at, b"Not a directory"),
-        EISDIR => add(line, at, b"Is a directory"),
-        EMFILE => add(line, at, b"Too many open files"),
-        ENAMETOOLONG => add(line, at, b"File name too long"),
-        ELOOP => add(line, at, b"Too many levels of symbolic links"),
-        EILSEQ => add(
-            line,
-            at,
-            b"Invalid or incomplete multibyte or wide character",
-        ),
-        _ => add_descriptor_error(line, at, error),
+// The words for a number of the system's; None for one that has none here.
+fn words_of(number: i32) -> Option<&'static str> {
+    match number {
+        1 => Some("Operation not permitted"),
+        2 => Some("No such file or directory"),
+        EINTR => Some("Interrupted system call"),
+        5 => Some("Input/output error"),
+        EBADF => Some("Bad file descriptor"),
+        11 => Some("Resource temporarily unavailable"),
+        12 => Some("Cannot allocate memory"),
+        13 => Some("Permission denied"),
+        20 => Some("Not a directory"),
+        21 => Some("Is a directory"),
+        22 => Some("Invalid argument"),
+        24 => Some("Too many open files"),
+        EFBIG => Some("File too large"),
+        28 => Some("No space left on device"),
+        EPIPE => Some("Broken pipe"),
+        ENAMETOOLONG => Some("File name too long"),
+        40 => Some("Too many levels of symbolic links"),
+        EILSEQ => Some("Invalid or incomplete multibyte or wide character"),
+        _ => None,
     }
-}
-
-// A colon and the words.
-pub fn add_error(line: &mut [u8], at: usize, error: i32) -> usize {
-    let next = add(line, at, b": ");
-    add_words(line, next, error)
 }

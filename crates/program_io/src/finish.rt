@@ -1,10 +1,11 @@
 // The end of a program, with its status on descriptor 3 where it is asked to report one.
-use crate::errors::{EBADF, EPIPE, number};
-use crate::message::{say_error, say_unread};
-use crate::output::{put_answer, put_no_answer};
-use crate::status::{ANSWERED, REFUSED};
-use crate::write::{Wrote, write_whole};
+use crate::arguments::Operand;
+use crate::errors::{EBADF, EPIPE};
+use crate::start::Call;
+use crate::status::Status;
+use crate::write::write_whole;
 use std::fs::{OpenOptions, metadata, symlink_metadata};
+use std::io::{Error, Result};
 use std::os::unix::fs::FileTypeExt;
 
 const STATUS_FILENO: i32 = 3;
@@ -24,11 +25,9 @@ fn takes_status(rt: &HostRuntime) -> bool {
 }
 
 // By the descriptor's name.
-fn write_by_name(rt: &HostRuntime, digit: &[u8; 1]) -> Wrote {
-    match OpenOptions::new().append(true).open(rt, STATUS_PATH) {
-        Ok(mut file) => write_whole(&mut file, digit),
-        Err(error) => Wrote::Failed(number(error)),
-    }
+fn write_by_name(rt: &HostRuntime, digit: &[u8; 1]) -> Result<()> {
+    let mut file = OpenOptions::new().append(true).open(rt, STATUS_PATH)?;
+    write_whole(&mut file, digit)
 }
 
 // Whether the descriptor is a pipe or a socket. Opened by its name it would be another one, at which a program could wait for ever.
@@ -43,58 +42,48 @@ fn is_stream(rt: &HostRuntime) -> bool {
 }
 
 // By the descriptor's number once more, as a try may only have been interrupted.
-fn write_again(digit: &[u8; 1]) -> Wrote {
+fn write_again(digit: &[u8; 1]) -> Result<()> {
     for _ in 0..STATUS_TRIES {
         if io::write_all(STATUS_FILENO, digit) {
-            return Wrote::Whole;
+            return Ok(());
         }
     }
-    Wrote::Failed(EPIPE)
+    Err(Error::from_raw_os_error(EPIPE))
 }
 
 // By the descriptor's number. Where that fails it tells no errno, so the status is written by name, or again where it goes to a pipe
 // or a socket.
-fn write_digit(rt: &HostRuntime, digit: &[u8; 1]) -> Wrote {
+fn write_digit(rt: &HostRuntime, digit: &[u8; 1]) -> Result<()> {
     if io::write_all(STATUS_FILENO, digit) {
-        return Wrote::Whole;
+        return Ok(());
     }
-    if takes_status(rt) {
-        if is_stream(rt) {
-            return write_again(digit);
-        }
-        return write_by_name(rt, digit);
+    if !takes_status(rt) {
+        return Err(Error::from_raw_os_error(EBADF));
     }
-    Wrote::Failed(EBADF)
+    if is_stream(rt) {
+        return write_again(digit);
+    }
+    write_by_name(rt, digit)
 }
 
-fn write_status(rt: &HostRuntime, status: u8) -> Wrote {
-    match status {
-        ANSWERED => write_digit(rt, b"0"),
-        REFUSED => write_digit(rt, b"1"),
-        _ => write_digit(rt, b"2"),
-    }
-}
-
-// Nothing follows: a status that can't be written is told by a message alone.
-pub fn finish(rt: &HostRuntime, name: &[u8], reports: bool, status: u8) {
-    if reports {
-        if let Wrote::Failed(error) = write_status(rt, status) {
-            say_error(rt, name, b"descriptor 3", error);
+impl Call<'_> {
+    // Nothing follows: a status that can't be written is told by a message alone.
+    pub fn finish(self, status: Status) {
+        if self.reports {
+            if let Err(error) = write_digit(self.program.rt, &status.digit()) {
+                self.program.say_error("descriptor 3", error);
+            }
         }
     }
-}
 
-// With an answer.
-pub fn answer(rt: &HostRuntime, name: &[u8], reports: bool, answer: &[u8]) {
-    finish(rt, name, reports, put_answer(rt, name, answer));
-}
+    // With an answer.
+    pub fn answer(self, answer: &[u8]) {
+        self.finish(self.program.put_answer(answer));
+    }
 
-// Without one, as operand i can't be read for this errno.
-pub fn give_up(rt: &HostRuntime, name: &[u8], reports: bool, i: usize, error: i32) {
-    finish(
-        rt,
-        name,
-        reports,
-        put_no_answer(rt, name, say_unread(rt, name, i, error)),
-    );
+    // Without one, as an operand can't be read.
+    pub fn give_up(self, operand: Operand, error: Error) {
+        let said = self.program.say_unread(operand, error);
+        self.finish(self.program.put_no_answer(said));
+    }
 }

@@ -1,81 +1,45 @@
 // Texts read into a lent buffer.
-ghost use Rattle.std.specs.Prelude.{◌≡◌};
+ghost use Rattle.std.specs.Prelude.{IfOk, IfSome};
 ghost use Rattle.io.specs.Counts.{IsPrefixLen};
 
-use crate::finish::give_up;
-use crate::stream::{Part, Source, close, open_operand, read_part};
+use crate::arguments::Operand;
+use crate::start::Call;
+use crate::stream::{Source, open};
+use std::io::Result;
 
-// A text at the front of a buffer, by its count of bytes; or none, and errno.
-#[derive(Drop)]
-pub struct Input {
-    pub is_read: bool,
-    pub count: usize,
-    pub error: i32,
-}
-
-// No text: what was read before an error is no text of its own.
-pub fn unread(error: i32) -> Input
-    ensures { result.count ≡ 0 }
-{
-    Input {
-        is_read: false,
-        count: 0,
-        error,
-    }
-}
-
-// Reads until the buffer is full or the input ends. Each turn leaves less room.
-fn read_all(source: &mut Source, text: &mut [u8]) -> Input
-    ensures { IsPrefixLen result.count text.new }
+// Reads until the buffer is full or the input ends; the count of bytes at the front of the buffer.
+fn read_all(source: &mut Source, text: &mut [u8]) -> Result<usize>
+    ensures { IfOk result (λ n. IsPrefixLen n text.new) }
 {
     let mut done: usize = 0;
     while done < text.len() {
-        match read_part(source, &mut text[done..]) {
-            Part::Bytes(n) => done += n,
-            Part::End => break,
-            Part::Failed(error) => return unread(error),
+        match source.read_part(&mut text[done..])? {
+            Some(n) => done += n,
+            None => break,
         }
     }
-    Input {
-        is_read: true,
-        count: done,
-        error: 0,
-    }
+    Ok(done)
 }
 
-// The text of operand i, an argument's number, or 0 for standard input.
-fn read_operand(rt: &HostRuntime, i: usize, text: &mut [u8]) -> Input
-    ensures { IsPrefixLen result.count text.new }
-{
-    match open_operand(rt, i) {
-        Ok(mut source) => {
-            let input = read_all(&mut source, text);
-            close(source);
-            input
+impl Call<'_> {
+    // The text of an operand, at the front of a buffer; its count of bytes. Where it can't be read to its end, everything is said and
+    // reported. A buffer of one byte more than a text may have lets a longer one reach the call that refuses it.
+    pub fn read_text(self, operand: Operand, text: &mut [u8]) -> Option<usize>
+        ensures { IfSome result (λ n. IsPrefixLen n text.new) }
+    {
+        match self.read_operand(operand, text) {
+            Ok(n) => Some(n),
+            Err(error) => {
+                self.give_up(operand, error);
+                None
+            }
         }
-        Err(error) => unread(error),
     }
-}
 
-// The same, and nothing is read for a program that does not run, or not on after a text before this one. Where the text can't be
-// read to its end, everything is said and reported. A buffer of one byte more than a text may have lets a longer one reach the
-// call that refuses it.
-pub fn read_text(
-    rt: &HostRuntime,
-    name: &[u8],
-    runs: bool,
-    reports: bool,
-    i: usize,
-    text: &mut [u8],
-) -> Input
-    ensures { IsPrefixLen result.count text.new }
-{
-    if !runs {
-        return unread(0);
+    fn read_operand(self, operand: Operand, text: &mut [u8]) -> Result<usize>
+        ensures { IfOk result (λ n. IsPrefixLen n text.new) }
+    {
+        let mut source = open(self.program.rt, operand)?;
+        read_all(&mut source, text)
     }
-    let input = read_operand(rt, i, text);
-    if !input.is_read {
-        give_up(rt, name, reports, i, input.error);
-    }
-    input
 }

@@ -2,15 +2,14 @@
 // to descriptor 3 where `--status` asks for it.
 #![tactic(auto)]
 
-mod arguments;
-mod calls;
+pub mod arguments;
 mod errors;
-pub mod finish;
+mod finish;
 mod help;
-pub mod input;
+mod input;
 pub mod line;
 mod message;
-pub mod output;
+mod output;
 pub mod start;
 pub mod status;
 pub mod stream;

@@ -1,45 +1,60 @@
 // A line put together in a buffer, so that it can be written at once.
-ghost use Rattle.io.specs.Counts.{IsPrefixLen};
+ghost use Rattle.std.specs.Prelude.{◌≤◌};
+
+use std::fmt;
+
+// Room for the first 4,096 bytes of an argument and the words around them.
+const ROOM: usize = 4352;
+
+#[derive(Drop)]
+pub struct Line {
+    bytes: [u8; ROOM],
+    len: usize,
+    ghost within: { len ≤ 4352 },
+}
 
 // A byte as it is shown: a control byte, as a line end, would break the line.
 fn shown(byte: u8) -> u8 {
-    if byte < 32 {
-        return b'?';
+    match byte {
+        0..=31 | 127 => b'?',
+        _ => byte,
     }
-    if byte == 127 {
-        return b'?';
-    }
-    byte
 }
 
-// Bytes from a place of a line on, as far as they fit; the place behind them.
-pub fn add(line: &mut [u8], at: usize, bytes: &[u8]) -> usize {
-    let mut next = at;
-    let mut i: usize = 0;
-    while i < bytes.len() {
-        if line.len() <= next {
-            break;
+impl Line {
+    pub fn new() -> Line {
+        Line {
+            bytes: [0; ROOM],
+            len: 0,
         }
-        line[next] = shown(bytes[i]);
-        next += 1;
-        i += 1;
     }
-    next
+
+    // More bytes, as far as they fit.
+    pub fn add(&mut self, bytes: &[u8]) {
+        for byte in bytes {
+            if self.len == ROOM {
+                return;
+            }
+            self.bytes[self.len] = shown(*byte);
+            self.len += 1;
+        }
+    }
+
+    // The line with its end, which takes the last place where the line is full.
+    pub fn ended(&mut self) -> &[u8] {
+        if self.len == ROOM {
+            self.len -= 1;
+        }
+        self.bytes[self.len] = b'\n';
+        self.len += 1;
+        &self.bytes[..self.len]
+    }
 }
 
-// The line's end at a place, or at the last one where the line is full; the length of the line.
-pub fn end(line: &mut [u8], at: usize) -> usize
-    ensures { IsPrefixLen result line.new }
-{
-    let room = line.len();
-    if room == 0 {
-        return 0;
+// What does not fit is left out, which is no error.
+impl fmt::Write for Line {
+    fn write_str(&mut self, text: &str) -> fmt::Result {
+        self.add(text.as_bytes());
+        Ok(())
     }
-    let last = room - 1;
-    if last < at {
-        line[last] = b'\n';
-        return room;
-    }
-    line[at] = b'\n';
-    at + 1
 }

@@ -1,28 +1,29 @@
 // What goes to standard output.
-use crate::message::say_error;
-use crate::status::ANSWERED;
-use crate::write::{Wrote, write_whole};
-use program_lines::exit_status;
+use crate::start::Program;
+use crate::status::Status;
+use crate::write::write_whole;
 
-// Bytes with the status that they give where they are written whole; else a message says why they are not.
-pub fn put(rt: &HostRuntime, name: &[u8], bytes: &[u8], status: u8) -> u8 {
-    match write_whole(&mut rt.stdout(), bytes) {
-        Wrote::Whole => status,
-        Wrote::Failed(error) => say_error(rt, name, b"standard output", error),
+impl Program<'_> {
+    // Bytes with the status that they give where they are written whole; else a message says why they are not.
+    pub fn put(self, bytes: &[u8], status: Status) -> Status {
+        match write_whole(&mut self.rt.stdout(), bytes) {
+            Ok(()) => status,
+            Err(error) => self.say_error("standard output", error),
+        }
     }
-}
 
-// An answer of several parts: whether this one is written whole, so that the next may be.
-pub fn put_part(rt: &HostRuntime, name: &[u8], bytes: &[u8]) -> bool {
-    put(rt, name, bytes, ANSWERED) == ANSWERED
-}
+    // An answer of several parts: whether this one is written whole, so that the next may be.
+    pub fn put_part(self, bytes: &[u8]) -> bool {
+        self.put(bytes, Status::Answered) == Status::Answered
+    }
 
-pub fn put_answer(rt: &HostRuntime, name: &[u8], answer: &[u8]) -> u8 {
-    put(rt, name, answer, exit_status(answer))
-}
+    pub fn put_answer(self, answer: &[u8]) -> Status {
+        self.put(answer, Status::of(answer))
+    }
 
-// The line in the place of an answer, behind the message that says why, with that message's status. An empty output
-// would be a plan of no operations; no program takes this line for a text.
-pub fn put_no_answer(rt: &HostRuntime, name: &[u8], said: u8) -> u8 {
-    put(rt, name, b"error\n", said)
+    // The line in the place of an answer, behind the message that says why, with that message's status. An empty output
+    // would be a plan of no operations; no program takes this line for a text.
+    pub fn put_no_answer(self, said: Status) -> Status {
+        self.put(b"error\n", said)
+    }
 }

@@ -1,11 +1,32 @@
-// The status of a program, which Rattle gives no way to exit with. Of an answer that is written whole it is
-// `program_lines::exit_status`.
+// The status of a program, which it writes as a digit to descriptor 3 where it is asked to.
+use program_lines::exit_status;
 
-// An answer that is no refusal, written whole.
-pub const ANSWERED: u8 = 0;
+#[derive(Clone, Copy, PartialEq, Eq)]
+pub enum Status {
+    // An answer that is no refusal, written whole.
+    Answered,
 
-// A refusal, written whole.
-pub const REFUSED: u8 = 1;
+    // A refusal, written whole.
+    Refused,
 
-// Wrong arguments, a text that can't be read, or a write that failed.
-pub const NO_ANSWER: u8 = 2;
+    // Wrong arguments, a text that can't be read, or a write that failed.
+    NoAnswer,
+}
+
+impl Status {
+    // That of an answer that is written whole.
+    pub fn of(answer: &[u8]) -> Status {
+        match exit_status(answer) {
+            0 => Status::Answered,
+            _ => Status::Refused,
+        }
+    }
+
+    pub fn digit(self) -> [u8; 1] {
+        match self {
+            Status::Answered => *b"0",
+            Status::Refused => *b"1",
+            Status::NoAnswer => *b"2",
+        }
+    }
+}

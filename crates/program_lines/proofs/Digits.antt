@@ -1,13 +1,13 @@
 -- The digits of a number, written from the lowest on.
 -- Assumes nothing.
-use mathlib.Core.Path.{◌≡◌, refl, sym, ap, ◌∙◌}
+use mathlib.Core.Path.{◌≡◌, refl, sym, ◌∙◌}
 use mathlib.Core.Bool.{Bool, true, false}
 use mathlib.Core.List.{List, [], ◌∷◌}
 use Prim.Native.Nat.{ℕ, zero, suc, ◌+◌, ◌*◌, ◌/◌, ◌%◌, ◌-◌, ◌≤◌, ◌<◌}
 use native.Mathlib.Omega.{arith}
 use lib.Dec.{ltb}
-use lib.ListN.{length, take, drop, set, length-set, length-drop, drop_of_length-le}
-use lib.Seq.{drop-cons, get_or-set_same, drop-set-lt, take_all}
+use lib.ListN.{length, drop, set, length-set, drop_of_length-le}
+use lib.Seq.{drop-cons, get_or-set_same, drop-set-lt}
 use borrow.Author.Tests.{ltb-false, lt-ltb, le-ltb}
 use Rattle.model.specs.Text.{Bytes}
 use Rattle.model.specs.Printed.{digits_of, number}
@@ -81,18 +81,6 @@ module _ (n left i : ℕ) (b : List ℕ) (f : Filled n left i b) where
   fill_last v l e =
       one_before b i v f.least (omega (arith, f.most, f.size))
       ∙ rw e (sym (last_digit f.fuel left (drop i b) f.enough l) ∙ f.stands)
-
--- ---- the digits as a part of the array
-
-module _ (n i : ℕ) (b : List ℕ) (size : length b ≡ 20) (e : drop i b ≡ number n) where
-  pub part_is : take (20 - i) (drop i b) ≡ number n
-  part_is = take_all (20 - i) (drop i b) (omega (arith, length-drop i b)) ∙ e
-
-  pub count_is : 20 - i ≡ length (number n)
-  count_is = omega (arith, ap length e, length-drop i b)
-
-  pub few_digits : length (number n) ≤ 20
-  few_digits = omega (arith, ap length e, length-drop i b)
 
 -- ---- at most 20 digits
 

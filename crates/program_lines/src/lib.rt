@@ -2,11 +2,13 @@
 #![tactic(auto)]
 
 ghost use Rattle.std.specs.Prelude.{◌≡◌, [], ◌∷◌, ◌++◌, map, ◌+◌, ◌*◌, ◌≤◌, ◌<◌, length, drop};
+ghost use Rattle.model.specs.Answers.{number_of};
 ghost use Rattle.model.specs.Text.{tab};
 ghost use Rattle.model.specs.Printed.{number, fields_of, line, exit_status};
 ghost use Rattle.plan_text.specs.Writing.{write_at};
 ghost use Rattle.program_lines.specs.Puts.{Puts, tabbed};
 
+use model::refusal::Refusal;
 use plan_text::put;
 
 // The digits of the largest usize, which is below 10 ^ 20.
@@ -27,6 +29,7 @@ fn fill_digits(n: usize, digits: &mut [u8; DIGITS]) -> usize
 {
     let mut left = n;
     let mut i = DIGITS;
+    // A while, as the count of digits follows from n.
     while 10 <= left {
         i -= 1;
         digits[i] = digit(left % 10);
@@ -73,10 +76,8 @@ fn put_fields(out: &mut [u8], at: usize, numbers: &[usize]) -> usize
     ensures upper_bound { result ≤ at + 21 * length numbers.now }
 {
     let mut next = at;
-    let mut i: usize = 0;
-    while i < numbers.len() {
-        next = put_field(out, next, numbers[i]);
-        i += 1;
+    for n in numbers {
+        next = put_field(out, next, *n);
     }
     next
 }
@@ -93,24 +94,18 @@ pub fn put_line(out: &mut [u8], at: usize, word: &[u8], numbers: &[usize]) -> us
 }
 
 // The line of a refusal by its number and place.
-pub fn put_refusal(out: &mut [u8], n: usize, place: usize) -> usize
+pub fn put_refusal(out: &mut [u8], refusal: Refusal) -> usize
     requires { 47 ≤ length out.old }
-    ensures { Puts 0 (line "fail" (number n ∷ number place ∷ [])) out.old result out.new }
+    ensures { Puts 0 (line "fail" (number (number_of refusal.kind) ∷ number refusal.place ∷ [])) out.old result out.new }
 {
-    let numbers = [n, place];
+    let numbers = [refusal.kind.number(), refusal.place];
     put_line(out, 0, b"fail", &numbers)
 }
 
 // The exit status for a printed answer: 1 for a refusal, else 0.
+#[tactic(auto, using(crate::proofs::Status::status_is))]
 pub fn exit_status(answer: &[u8]) -> u8
     ensures { result ≡ exit_status answer.now }
 {
-    if answer.len() < 4 {
-        return 0;
-    }
-    if text::equal(&answer[..4], b"fail") {
-        1
-    } else {
-        0
-    }
+    u8::from(answer.starts_with(b"fail"))
 }

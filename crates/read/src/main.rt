@@ -3,29 +3,22 @@
 #![tactic(auto)]
 
 use model::limits::MAX_NETWORK_BYTES;
-use program_io::finish::answer;
-use program_io::input::read_text;
 use program_io::start::begin;
 use read_answer::{ROOM, print_reading};
 
+const USAGE: &str = "usage: read [NETWORK]\n\
+    NETWORK is the file of a network text, - or nothing for standard input.\n\
+    Prints ok with the counts of nodes, segment bits, steering bits and path bits, or fail, number, place.\n";
+
 fn main(rt: HostRuntime) {
-    let name = b"read";
-    let call = begin(
-        &rt,
-        name,
-        b"usage: read [NETWORK]\n\
-          NETWORK is the file of a network text, - or nothing for standard input.\n\
-          Prints ok with the counts of nodes, segment bits, steering bits and path bits, or fail, number, place.\n",
-        0,
-        1,
-    );
-    let mut text = [0u8; MAX_NETWORK_BYTES + 1];
-    let input = read_text(&rt, name, call.runs, call.reports, call.first, &mut text);
-    if !input.is_read {
+    let Some(call) = begin(&rt, "read", USAGE, 0, 1) else {
         return;
-    }
-    let n = input.count;
+    };
+    let mut text = [0u8; MAX_NETWORK_BYTES + 1];
+    let Some(n) = call.read_text(call.first, &mut text) else {
+        return;
+    };
     let mut out = [0u8; ROOM];
     let end = print_reading(&text[..n], &mut out);
-    answer(&rt, name, call.reports, &out[..end]);
+    call.answer(&out[..end]);
 }

@@ -7,7 +7,7 @@ ghost use Rattle.model.specs.Printed.{number, line, read_program};
 ghost use Rattle.program_lines.specs.Puts.{Puts};
 ghost use Rattle.program_text.specs.Printing.{PrintedTo};
 
-use network_reader::reader::{Acceptance, read_network};
+use network_reader::reader::read_network;
 use program_lines::{put_line, put_refusal};
 
 // Room for `ok` and four fields, each a tab and at most 20 digits, and the line's end: 2 + 4 * 21 + 1 = 87 bytes.
@@ -27,17 +27,14 @@ pub fn print_reading(text: &[u8], out: &mut [u8; ROOM]) -> usize
     ensures printed_to { PrintedTo (read_program text.now) out.old result out.new }
     ensures prefix_len { IsPrefixLen result out.new }
 {
-    let reading = read_network(text);
-    let verdict = reading.verdict;
-    let network = reading.network;
-    match verdict {
-        Acceptance::Accepted => put_counts(
+    match read_network(text) {
+        Ok(network) => put_counts(
             out,
             network.summary.count,
             network.summary.total,
             network.steering_count,
             network.start_length,
         ),
-        Acceptance::Refused(number, place) => put_refusal(out, number, place),
+        Err(refusal) => put_refusal(out, refusal),
     }
 }

@@ -22,41 +22,35 @@ use Rattle.recover_model.specs.RecoverCalls.{Progress, can_go_on, rest_answer, r
 use Rattle.recover_model.proofs.GoesOn.{tested}
 use Rattle.plan_text.specs.Writing.{write_at}
 use Rattle.recoverer.specs.Parts.{answer_before}
-use Rattle.program_text.specs.Printing.{PrintedTo}
-use Rattle.recover_answer.specs.Recovery.{holding, recovery_shown, Took, none_yet, one_more}
+use Rattle.recover_answer.specs.Recovery.{holding, recovery_shown, end_count, Took, none_yet, one_more}
 
 -- ---- at the end
 
-pub shown_refused : (rest plan : Bytes) (k place : ℕ) → recovery_shown (refused k place) rest plan ≡ line "fail" (number k ∷ number place ∷ [])
-unfolding recovery_end
-shown_refused rest plan k place = refl
-
-pub shown_as : (r r₀ : Result Progress) (rest plan : Bytes) {old new : List ℕ} {n : ℕ} → r ≡ r₀ → PrintedTo (recovery_shown r₀ rest plan) old n new → PrintedTo (recovery_shown r rest plan) old n new
-shown_as r r₀ rest plan e p = rw e p
-
-module _ (p : Progress) (rest plan : Bytes) where
-  pub shown_end_refused : (k place : ℕ) → refused k place ≡ recover_end p rest → recovery_shown (ok p) rest plan ≡ line "fail" (number k ∷ number place ∷ [])
+module _ (r : Result Progress) (rest plan : Bytes) where
+  pub shown_refused : (k place : ℕ) → refused k place ≡ end_count r rest → recovery_shown r rest plan ≡ line "fail" (number k ∷ number place ∷ [])
   unfolding recovery_end
-  shown_end_refused k place e = rw (← e)
+  shown_refused k place e = rw (← e)
 
-  pub shown_plan : (count : ℕ) → ok count ≡ recover_end p rest → recovery_shown (ok p) rest plan ≡ take count plan
+  pub shown_plan : (count : ℕ) → ok count ≡ end_count r rest → recovery_shown r rest plan ≡ take count plan
   unfolding recovery_end
   shown_plan count e = rw (← e)
 
   -- no more than fit into the buffer
-  pub plan_fits : (count : ℕ) → ok count ≡ recover_end p rest → count ≤ max_plan_bytes
+  pub plan_fits : (count : ℕ) → ok count ≡ end_count r rest → count ≤ max_plan_bytes
   unfolding recover_end
   plan_fits count e =
-      let a = passed_test (not (can_go_on p)) _ _ _ count (sym e) in
+      let d = handed r (λ p. recover_end p rest) count (sym e) in
+      let p = d.value in
+      let a = passed_test (not (can_go_on p)) _ _ _ count d.then in
       let b = handed (at_end p refusal.clock_line rest (suc p.lines)) rest_answer count a.1 in
       let c = passed_test (not (eqb b.value.state (state_number idle))) _ _ _ count b.then in
-      let same : p ≡ b.value = at_end_is rest b.given in
+      let same : p ≡ b.value = at_end_is p rest b.given in
       let n : b.value.plan_bytes ≡ count = ok_is c.1 in
       omega (arith, (tested p (not-false (can_go_on p) a.0)).short, ap (λ (x : Progress). x.plan_bytes) same)
     where
-      at_end_is : (l : Bytes) {q : Progress} → at_end p refusal.clock_line l (suc p.lines) ≡ ok q → p ≡ q
-      at_end_is [] e = ok_is e
-      at_end_is (b ∷ l) e = absurd (not_ok e)
+      at_end_is : (p : Progress) (l : Bytes) {q : Progress} → at_end p refusal.clock_line l (suc p.lines) ≡ ok q → p ≡ q
+      at_end_is p [] e = ok_is e
+      at_end_is p (b ∷ l) e = absurd (not_ok e)
 
 -- what stands at the front is written there
 pub stands : (count : ℕ) (shown plan : Bytes) → shown ≡ take count plan → count ≤ length plan → (count ≡ length shown) × (plan ≡ write_at 0 shown plan)

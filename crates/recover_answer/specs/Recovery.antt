@@ -2,9 +2,9 @@
 -- Assumes nothing.
 use Rattle.std.specs.Prelude.{List, [], ◌∷◌, ◌++◌, ℕ, take}
 use Rattle.model.specs.Printed.{printed}
-use Rattle.model.specs.Result.{Result, ok}
+use Rattle.model.specs.Result.{Result, ok, and_then}
 use Rattle.model.specs.Text.{Bytes}
-use Rattle.recover_model.specs.RecoverCalls.{Progress, at_first, Recovery, recovery_end}
+use Rattle.recover_model.specs.RecoverCalls.{Progress, at_first, recover_end, Recovery, recovery_end}
 use Rattle.recoverer.specs.Parts.{answer_before, DidPart}
 
 abbrev pub holding : Result Progress → Bytes → Bytes → Recovery
@@ -12,6 +12,10 @@ holding r rest plan = record { answer = answer_before r plan; rest = rest }
 
 abbrev pub recovery_shown : Result Progress → Bytes → Bytes → Bytes
 recovery_shown r rest plan = printed (λ text. text) (recovery_end (holding r rest plan))
+
+-- the plan's bytes at the end of a text
+abbrev pub end_count : Result Progress → Bytes → Result ℕ
+end_count r rest = and_then r (λ p. recover_end p rest)
 
 -- after these parts of a text, each taken by `recover_part` behind what was held: the answer, the rest and the plan buffer
 pub data Took (orig : Bytes) : List Bytes → Result Progress → Bytes → Bytes → Type 0 where

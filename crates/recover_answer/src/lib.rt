@@ -1,41 +1,38 @@
 // The recover program's answer, where the plan stands already.
 #![tactic(auto)]
 
-ghost use Rattle.std.specs.Prelude.{◌≤◌, length};
-ghost use Rattle.model.specs.Limits.{max_plan_bytes};
+ghost use Rattle.std.specs.Prelude.{◌≡◌};
 ghost use Rattle.io.specs.Counts.{IsPrefixLen};
-ghost use Rattle.model.specs.Result.{ok};
+ghost use Rattle.model.specs.Answers.{answer, count_of};
 ghost use Rattle.clock_follower.specs.Counts.{progress_for};
 ghost use Rattle.program_text.specs.Printing.{PrintedTo};
-ghost use Rattle.recover_answer.specs.Recovery.{recovery_shown};
-ghost use Rattle.recover_line.specs.Answers.{stepped};
+ghost use Rattle.recover_answer.specs.Recovery.{recovery_shown, end_count};
 
 use clock_follower::Progress;
 use model::limits::MAX_PLAN_BYTES;
+use model::refusal::Refusal;
 use program_lines::put_refusal;
-use recover_line::{Ended, Stepped, recover_end};
+use recover_line::recover_end;
 
-// The same for a text that was not refused so far.
-fn print_end(p: Progress, rest: &[u8], plan: &mut [u8]) -> usize
-    requires { max_plan_bytes ≤ length plan.old }
-    ensures printed_to { PrintedTo (recovery_shown (ok (progress_for p)) rest.now plan.old) plan.old result plan.new }
-    ensures prefix_len { IsPrefixLen result plan.new }
+// The plan's bytes at the end of a text, by the answer so far and the rest that is held.
+fn plan_bytes(so_far: Result<Progress, Refusal>, rest: &[u8]) -> Result<usize, Refusal>
+    ensures { count_of result ≡ end_count (answer progress_for so_far) rest.now }
 {
-    let ended = recover_end(p, rest);
-    match ended {
-        Ended::Refused(number, place) => put_refusal(plan, number, place),
-        Ended::Bytes(count) => count,
-    }
+    recover_end(so_far?, rest)
 }
 
 // What the recover program prints at the end of a text, by the answer so far, the rest that is held and the plan buffer, at the
 // front of that buffer; its length.
-pub fn print_recovery(answer: Stepped, rest: &[u8], plan: &mut [u8; MAX_PLAN_BYTES]) -> usize
-    ensures printed_to { PrintedTo (recovery_shown (stepped answer) rest.now plan.old) plan.old result plan.new }
+pub fn print_recovery(
+    so_far: Result<Progress, Refusal>,
+    rest: &[u8],
+    plan: &mut [u8; MAX_PLAN_BYTES],
+) -> usize
+    ensures printed_to { PrintedTo (recovery_shown (answer progress_for so_far) rest.now plan.old) plan.old result plan.new }
     ensures prefix_len { IsPrefixLen result plan.new }
 {
-    match answer {
-        Stepped::Refused(number, place) => put_refusal(plan, number, place),
-        Stepped::To(p) => print_end(p, rest, plan),
+    match plan_bytes(so_far, rest) {
+        Ok(count) => count,
+        Err(refusal) => put_refusal(plan, refusal),
     }
 }

@@ -1,6 +1,4 @@
 -- Laws of the calls for a line and for the end.
-pub mod GoingOn
 pub mod Pins
 pub mod OneLine
-pub mod TextEnd
 pub mod PutLine

@@ -2,7 +2,7 @@
 -- Assumes nothing.
 use mathlib.Core.Path.{◌≡◌, refl, sym, ap, ◌∙◌}
 use mathlib.Core.Bool.{true, false, cond, not}
-use mathlib.Core.Option.{Option, none, some}
+use Rattle.std.specs.Prelude.{Option, None as none, Some as some, option_map}
 use mathlib.Core.List.{List, [], ◌∷◌, ◌++◌, map}
 use Prim.Native.Nat.{ℕ, suc, ◌+◌, ◌≤◌, ◌<◌}
 use native.Mathlib.Omega.{arith}
@@ -26,8 +26,7 @@ use Rattle.recover_model.proofs.StepDone.{if_followed_law, step_done, line_refus
 use Rattle.plan_text.specs.Writing.{write_at}
 use Rattle.plan_text.proofs.Writing.{write_none}
 use Rattle.clock_writer.specs.Machine.{is_one}
-use Rattle.clock_line.specs.Line.{clock_count}
-use Rattle.clock_line.proofs.Lines.{counted_clocks, uncounted}
+use Rattle.clock_line.proofs.Lines.{HasClocks, uncounted}
 use Rattle.clock_follower.specs.Counts.{counts_by}
 use Rattle.clock_follower.proofs.Counts.{counts_followed}
 use Rattle.recover_line.specs.Answers.{progress_after, line_clocks, text_of_line, CanPut}
@@ -46,7 +45,7 @@ module _ (p : Progress) (l : Bytes) where
   cannot_go_on e = rw e
 
   module _ (can : can_go_on p ≡ true) where
-    pub no_clocks : 0 ≡ clock_count (clk_line l) → refused refusal.clock_line (p.lines + 1) ≡ progress_after (step_line p l)
+    pub no_clocks : none ≡ option_map length (clk_line l) → refused refusal.clock_line (p.lines + 1) ≡ progress_after (step_line p l)
     unfolding step_line
     no_clocks e = rw (can, uncounted l e, add-one)
 
@@ -62,10 +61,9 @@ module _ (p : Progress) (l : Bytes) where
         go none = rw add-one
         go (some g) = rw add-one
 
-    pub step_followed : (n : ℕ) → n ≡ clock_count (clk_line l) → (n ≡ 0 → ⊥) → (o : Option Progress) → o ≡ counts_by p (map is_one (take n (drop 4 l)))
+    pub step_followed : (n : ℕ) → HasClocks l n → (o : Option Progress) → o ≡ counts_by p (map is_one (take n (drop 4 l)))
         → after_line p.lines o ≡ progress_after (step_line p l)
-    step_followed n e some_clock o f =
-        let h = counted_clocks l n e some_clock in
+    step_followed n h o f =
         let ms : map is_one (take n (drop 4 l)) ≡ map tms_of h.clocks = ap (map is_one) h.tms ∙ ones tms_of h.clocks in
         ap (after_line p.lines) (f ∙ ap (counts_by p) ms) ∙ sym (step_by h.clocks h.good)
 
@@ -145,7 +143,7 @@ module _ (p : Progress) (l : Bytes) (plan : List ℕ) where
       call_room =
           let t = step_text p l done.0 done.1 in
           let d = step_done p l done.0 done.1 in
-          record { known = omega (arith, (tested p could).high); clocks = t.0; good = t.1; room = omega (arith, ap length text_is, d.stands, bytes_are, written_fewer done.0.after) }
+          record { clocks = t.0; good = t.1; room = omega (arith, ap length text_is, d.stands, bytes_are, written_fewer done.0.after) }
 
       pub call_written : (plan' : List ℕ) → plan' ≡ write_at at (text_of_line p.state l) plan → Leaves (ok q) plan'
       call_written plan' w =

@@ -2,9 +2,9 @@
 -- Assumes nothing.
 use mathlib.Core.Path.{◌≡◌, refl, sym, ap, ◌∙◌}
 use mathlib.Core.Bool.{Bool}
-use mathlib.Core.Option.{Option}
+use Rattle.std.specs.Prelude.{Option}
 use mathlib.Core.List.{List, map}
-use Prim.Native.Nat.{ℕ, ◌+◌, ◌-◌, ◌/◌, ◌≤◌, ◌<◌}
+use Prim.Native.Nat.{ℕ, ◌+◌, ◌-◌, ◌/◌, ◌≤◌}
 use native.Mathlib.Omega.{arith}
 use lib.ListN.{length, take, drop}
 use Rattle.model.specs.Printed.{pins}
@@ -60,9 +60,9 @@ module _ (state at : ℕ) (l plan : Bytes) (can : CanPut state at l plan) where
     text_is : added_text (state_at state) (clocks_from tms tdi) ≡ text_of_line state l
     text_is = rows_text l count its_clocks tms tdi tms-is tdi-is state
 
-    pub put_ready : ((state < 16) × (length tdi ≡ length tms) × AreBits tdi) × (at + length (added_text (state_at state) (clocks_from tms tdi)) ≤ length plan)
+    pub put_ready : ((length tdi ≡ length tms) × AreBits tdi) × (at + length (added_text (state_at state) (clocks_from tms tdi)) ≤ length plan)
     put_ready = (
-      (can.known, rows_as_long l count its_clocks tms tdi tms-is tdi-is, row_of_bits l count its_clocks tms tdi tms-is tdi-is),
+      (rows_as_long l count its_clocks tms tdi tms-is tdi-is, row_of_bits l count its_clocks tms tdi tms-is tdi-is),
       omega (arith, can.room, ap length text_is),
     )
 

@@ -1,7 +1,7 @@
 -- Texts of clocks: one line, and the lines joined (document 02, Change 2).
 -- Assumes nothing.
 use Rattle.std.specs.Prelude.{Bool, cond, ◌&&◌, List, [], ◌∷◌, ◌++◌, ℕ, length, eqb, ltb}
-use Rattle.std.proofs.Math.Option.{Option, none, some}
+use Rattle.std.specs.Prelude.{Option, None as none, Some as some}
 use Rattle.model.specs.Text.{Bytes, bytes, bind, is_empty, fields, same}
 use Rattle.model.specs.Tap.{Clock, clk}
 use Rattle.model.specs.NetworkText.{field}

@@ -2,7 +2,7 @@
 -- in turn, and one for a whole text in memory; then what a program does with a text that comes in parts.
 -- Assumes nothing.
 use Rattle.std.specs.Prelude.{Bool, cond, not, ◌&&◌, List, [], ◌∷◌, ◌++◌, ℕ, suc, ◌-◌, length, take, drop, eqb, leb, ltb}
-use Rattle.std.proofs.Math.Option.{Option, some}
+use Rattle.std.specs.Prelude.{Option, Some as some}
 use Rattle.model.specs.Limits.{max_operations, max_plan_bytes}
 use Rattle.model.specs.Refusals as refusal
 use Rattle.model.specs.Result.{Result, ok, refused, refuse_if, and_then}

@@ -1,7 +1,7 @@
 -- The promises of Change 2 of document 02, "Clocks back into a plan", as statements over texts; proofs/Requests.antt proves them all.
 -- Assumes nothing.
 use Rattle.std.specs.Prelude.{◌≡◌, Bool, cond, ◌↔◌, ℕ, suc, ◌+◌, ◌*◌, ◌≤◌, ◌<◌, length, take}
-use Rattle.std.proofs.Math.Option.{Option, none, some}
+use Rattle.std.specs.Prelude.{Option, None as none, Some as some}
 use mathlib.Core.List.{List, [], ◌∷◌, ◌++◌, map, Memᴰ}
 use Rattle.model.specs.Limits.{max_operations, max_plan_bytes}
 use Rattle.model.specs.Refusals as refusal

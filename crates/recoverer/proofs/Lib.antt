@@ -1,6 +1,5 @@
 -- Laws of the calls; the other folders prove the functions.
 pub mod PlayedLine
 pub mod PartLines
-pub mod PartRest
 pub mod OnePart
 pub mod WholeCall

@@ -5,14 +5,18 @@ use mathlib.Core.List.{List, [], ◌∷◌}
 use Prim.Native.Nat.{ℕ, ◌+◌, ◌-◌, ◌≤◌, ◌<◌}
 use native.Mathlib.Omega.{arith}
 use lib.ListN.{length, take, drop, drop_of_length-le}
+use Rattle.std.specs.Prelude.{Ok, Err}
+use Rattle.model.specs.Answers.{number_of}
 use Rattle.model.specs.Result.{Result, ok, refused}
 use Rattle.model.specs.Text.{Bytes, parts, ended, line_end}
-use Rattle.model.proofs.Lists.{not_ok}
+use Rattle.model.specs.declared.refusal.Refusal.{Refusal}
 use Rattle.model.proofs.PlanTexts.{parts_more}
 use Rattle.recover_model.specs.RecoverCalls.{Progress, LineAnswer, recover_line, go_on, recover_lines, behind}
 use Rattle.recover_model.proofs.RecoverBuffers.{line_buffer_kept, line_buffer_written}
 use Rattle.text.specs.Places.{IsEnd}
 use Rattle.text.proofs.Parts.{rest_alone, rest_ended}
+use Rattle.clock_follower.specs.declared.Progress.{Progress as Kept}
+use Rattle.clock_follower.specs.Counts.{progress_for}
 use Rattle.recoverer.specs.Parts.{PlayedLine, DidLines}
 
 -- the line that ends at `end`
@@ -39,23 +43,23 @@ pub record Doing (text : Bytes) (p₀ : Progress) (plan₀ : List ℕ) (p : Prog
 pub doing_start : (text : Bytes) (p : Progress) (plan : List ℕ) → Doing text p plan p plan 0
 doing_start text p plan = record { same = refl; rest = refl; within = omega arith; as_long = refl }
 
-module _ (text : Bytes) (p₀ : Progress) (plan₀ : List ℕ) (p : Progress) (plan : List ℕ) (at : ℕ) (d : Doing text p₀ plan₀ p plan at) where
+module _ (text : Bytes) (p₀ : Progress) (plan₀ : List ℕ) (now : Kept) (plan : List ℕ) (at : ℕ) (d : Doing text p₀ plan₀ (progress_for now) plan at) where
   -- no line is ended any more
-  last : parts line_end (drop at text) ≡ drop at text ∷ [] → DidLines p₀ text plan₀ (ok p) at plan
+  last : parts line_end (drop at text) ≡ drop at text ∷ [] → DidLines p₀ text plan₀ (Ok record { progress = now; at = at }) plan
   unfolding recover_lines
   last e =
-      let s : recover_lines p plan [] ≡ recover_lines p₀ plan₀ (ended (parts line_end text)) = rw e at d.same in
-      record { answers = ap (λ (x : LineAnswer). x.result) s; left = λ q f. ap (λ (x : LineAnswer). x.plan) s; rest = rw e at d.rest; within = d.within }
+      let s : recover_lines (progress_for now) plan [] ≡ recover_lines p₀ plan₀ (ended (parts line_end text)) = rw e at d.same in
+      record { answers = ap (λ (x : LineAnswer). x.result) s; left = ap (λ (x : LineAnswer). x.plan) s; rest = rw e at d.rest; within = d.within }
 
-  pub done_at_end : length text ≤ at → DidLines p₀ text plan₀ (ok p) at plan
+  pub done_at_end : length text ≤ at → DidLines p₀ text plan₀ (Ok record { progress = now; at = at }) plan
   unfolding parts
   done_at_end l = let z : drop at text ≡ [] = drop_of_length-le text l in last (rw z)
 
   module _ (end : ℕ) (e : IsEnd line_end text at end) where
-    pub done_unended : end ≡ length text → DidLines p₀ text plan₀ (ok p) at plan
+    pub done_unended : end ≡ length text → DidLines p₀ text plan₀ (Ok record { progress = now; at = at }) plan
     done_unended l = last (rest_alone line_end text at end e l)
 
-    module _ (more : end < length text) (r : Result Progress) (plan' : List ℕ) (did : PlayedLine p (line_at text at end) plan r plan') where
+    module _ (more : end < length text) where
       abbrev line : Bytes
       line = line_at text at end
 
@@ -67,28 +71,24 @@ module _ (text : Bytes) (p₀ : Progress) (plan₀ : List ℕ) (p : Progress) (p
       abbrev later : Progress → List ℕ → LineAnswer
       later q new = recover_lines q new (ended (parts line_end (drop (end + 1) text)))
 
-      whole : go_on (recover_line p line plan) later ≡ recover_lines p₀ plan₀ (ended (parts line_end text))
+      whole : go_on (recover_line (progress_for now) line plan) later ≡ recover_lines p₀ plan₀ (ended (parts line_end text))
       unfolding recover_lines
       whole =
           let w = lines_are in
-          ap (λ (x : List Bytes). go_on (recover_line p line plan) (λ q new. recover_lines q new (ended x))) w.2 ∙ (rw w.3 at d.same)
+          ap (λ (x : List Bytes). go_on (recover_line (progress_for now) line plan) (λ q new. recover_lines q new (ended x))) w.2 ∙ (rw w.3 at d.same)
 
-      pub done_refused : (number place : ℕ) → r ≡ refused number place → DidLines p₀ text plan₀ (refused number place) (length text) plan'
-      done_refused number place f =
-          let s : recover_line p line plan ≡ recover_lines p₀ plan₀ (ended (parts line_end text)) = stops (recover_line p line plan) later number place (sym did.answers ∙ f) ∙ whole in
-          record {
-            answers = sym f ∙ did.answers ∙ ap (λ (x : LineAnswer). x.result) s;
-            left = λ q g. absurd (not_ok g);
-            rest = drop_of_length-le text {i = length text} (omega arith);
-            within = omega arith;
-          }
+      module _ (plan' : List ℕ) where
+        pub done_refused : (r : Refusal) → PlayedLine (progress_for now) line plan (Err r) plan' → DidLines p₀ text plan₀ (Err r) plan'
+        done_refused r did =
+            let s = stops (recover_line (progress_for now) line plan) later (number_of r.kind) r.place (sym did.answers) ∙ whole in
+            record { answers = did.answers ∙ ap (λ (x : LineAnswer). x.result) s; left = tt; rest = tt; within = tt }
 
-      pub doing_next : (q : Progress) → r ≡ ok q → Doing text p₀ plan₀ q plan' (end + 1)
-      doing_next q f =
-          let w = lines_are in
-          record {
-            same = rw (did.left q f) (rw (sym did.answers ∙ f) at whole);
-            rest = rw w.2 (rw w.3 at d.rest);
-            within = omega arith;
-            as_long = ap length (did.left q f) ∙ line_as_long p line plan ∙ d.as_long;
-          }
+        pub doing_next : (q : Kept) → PlayedLine (progress_for now) line plan (Ok q) plan' → Doing text p₀ plan₀ (progress_for q) plan' (end + 1)
+        doing_next q did =
+            let w = lines_are in
+            record {
+              same = rw did.left (rw (sym did.answers) at whole);
+              rest = rw w.2 (rw w.3 at d.rest);
+              within = omega arith;
+              as_long = ap length did.left ∙ line_as_long (progress_for now) line plan ∙ d.as_long;
+            }

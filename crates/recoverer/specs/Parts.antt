@@ -1,29 +1,41 @@
 -- A line, the lines of a text and a text that comes in parts, in the model's terms: what the steps that follow a line once leave.
 -- Assumes nothing.
-use Rattle.std.specs.Prelude.{◌≡◌, ℕ, ◌≤◌, ◌<◌, length, take, drop}
-use Rattle.model.specs.Result.{Result, ok, and_then}
+use Rattle.std.specs.Prelude.{◌≡◌, ℕ, ◌≤◌, ◌<◌, length, take, drop, Result as Answer, IfOk, OnOk}
+use Rattle.model.specs.Answers.{answer}
+use Rattle.model.specs.Result.{Result, ok}
 use Rattle.model.specs.Text.{Bytes, parts, ended, line_end}
-use Rattle.recover_model.specs.RecoverCalls.{Progress, LineAnswer, recover_line, recover_lines, behind, unless_long, held_after, recover_part}
+use Rattle.model.specs.declared.refusal.Refusal.{Refusal}
+use Rattle.recover_model.specs.RecoverCalls.{Progress, LineAnswer, recover_line, recover_lines, behind, recover_part}
 use Rattle.recover_model.specs.ClockText.{max_line_bytes}
+use Rattle.clock_follower.specs.declared.Progress.{Progress as Kept}
+use Rattle.clock_follower.specs.Counts.{progress_for}
+use Rattle.recoverer.specs.declared.lines.Lines.{Lines}
 
 -- `play_line` answered r for a line; where it did not refuse, it left the plan as plan'
-pub record PlayedLine (p : Progress) (l plan : Bytes) (r : Result Progress) (plan' : Bytes) : Type 0 where
-  pub answers : r ≡ (recover_line p l plan).result
-  pub left : (q : Progress) → r ≡ ok q → plan' ≡ (recover_line p l plan).plan
+pub record PlayedLine (p : Progress) (l plan : Bytes) (r : Answer Kept Refusal) (plan' : Bytes) : Type 0 where
+  pub answers : answer progress_for r ≡ (recover_line p l plan).result
+  pub left : OnOk r (plan' ≡ (recover_line p l plan).plan)
 
--- `recover_lines` answered r for the lines that end in a text, with the rest from a place on; where it did not refuse, it left the plan as plan'
-pub record DidLines (p : Progress) (text plan : Bytes) (r : Result Progress) (at : ℕ) (plan' : Bytes) : Type 0 where
-  pub answers : r ≡ (recover_lines p plan (ended (parts line_end text))).result
-  pub left : (q : Progress) → r ≡ ok q → plan' ≡ (recover_lines p plan (ended (parts line_end text))).plan
-  pub rest : drop at text ≡ held_after r (behind (parts line_end text))
-  pub within : at ≤ length text
+-- where the lines of a text lead
+abbrev pub led_to : Answer Lines Refusal → Result Progress
+led_to r = answer (λ l. progress_for l.progress) r
 
--- the answer with a rest behind it
-abbrev pub with_rest : Result Progress → Bytes → Result Progress
-with_rest r rest = and_then r (unless_long rest)
+-- `recover_lines` answered r for the lines that end in a text; where it did not refuse, the rest starts at its place, and it left the plan as plan'
+pub record DidLines (p : Progress) (text plan : Bytes) (r : Answer Lines Refusal) (plan' : Bytes) : Type 0 where
+  pub answers : led_to r ≡ (recover_lines p plan (ended (parts line_end text))).result
+  pub left : OnOk r (plan' ≡ (recover_lines p plan (ended (parts line_end text))).plan)
+  pub rest : IfOk r (λ l. drop l.at text ≡ behind (parts line_end text))
+  pub within : IfOk r (λ l. l.at ≤ length text)
 
 abbrev pub answer_before : Result Progress → Bytes → LineAnswer
 answer_before r plan = record { result = r; plan = plan }
+
+-- `follow_part` went on from an answer for a text: it answered r; where it did not refuse, what is held starts at its place, and it left the plan as plan'
+pub record FollowedPart (r₀ : Result Progress) (text plan : Bytes) (r : Answer Lines Refusal) (plan' : Bytes) : Type 0 where
+  pub answers : led_to r ≡ (recover_part (answer_before r₀ plan) text).answer.result
+  pub left : OnOk r (plan' ≡ (recover_part (answer_before r₀ plan) text).answer.plan)
+  pub rest : IfOk r (λ l. drop l.at text ≡ (recover_part (answer_before r₀ plan) text).rest)
+  pub within : IfOk r (λ l. l.at ≤ length text)
 
 -- `recover_part` went on from an answer for a text: it answered r', kept so many bytes at the front of text', and, where it did not refuse, left
 -- the plan as plan'

@@ -1,82 +1,61 @@
 // The lines that end in a text, one behind the other, into a buffer with room for every plan. It is free after a refusal, so that a line
 // is followed once: counted and written at the same time.
-ghost use Rattle.std.specs.Prelude.{◌≡◌, ◌≤◌, length};
+ghost use Rattle.std.specs.Prelude.{◌≡◌, option_map, ◌≤◌, length};
 ghost use Rattle.model.specs.Limits.{max_plan_bytes};
 ghost use Rattle.recover_model.specs.ClockText.{clk_line};
-ghost use Rattle.clock_line.specs.Line.{clock_count};
 ghost use Rattle.clock_follower.specs.Counts.{progress_for};
-ghost use Rattle.recover_line.specs.Answers.{stepped};
 ghost use Rattle.recoverer.specs.Parts.{PlayedLine, DidLines};
 
-use clock_follower::{Followed, Progress, play};
+use clock_follower::{Progress, play};
 use clock_line::{find_line, tdi_of, tms_of};
-use model::refusal;
-use recover_line::{Stepped, bytes_written, can_go_on};
+use model::refusal::{Kind, Refusal};
+use recover_line::{bytes_written, can_go_on};
 
-// A line with so many clocks, 0 for one that has not the form of a `clk` line.
-fn play_line(p: Progress, line: &[u8], clocks: usize, plan: &mut [u8]) -> Stepped
-    requires { (clocks ≡ clock_count (clk_line line.now)) × (max_plan_bytes ≤ length plan.old) }
-    ensures { PlayedLine (progress_for p) line.now plan.old (stepped result) plan.new }
+// A line with so many clocks, none where it has not the form of a `clk` line.
+fn play_line(
+    p: Progress,
+    line: &[u8],
+    clocks: Option<usize>,
+    plan: &mut [u8],
+) -> Result<Progress, Refusal>
+    requires { (clocks ≡ option_map length (clk_line line.now)) × (max_plan_bytes ≤ length plan.old) }
+    ensures { PlayedLine (progress_for p) line.now plan.old result plan.new }
 {
     if !can_go_on(p) {
-        return Stepped::Refused(refusal::CLOCK_LINE, p.lines);
+        return Err(Kind::ClockLine.at(p.lines));
     }
     let place = p.lines + 1;
-    if clocks == 0 {
-        return Stepped::Refused(refusal::CLOCK_LINE, place);
-    }
+    let refusal = Kind::ClockLine.at(place);
+    let n = clocks.ok_or(refusal)?;
     let at = bytes_written(p);
-    let played = play(p, at, tms_of(line, clocks), tdi_of(line, clocks), plan);
-    match played {
-        Followed::To(q) => Stepped::To(Progress {
-            lines: place,
-            state: q.state,
-            entries: q.entries,
-            bytes: q.bytes,
-        }),
-        Followed::Offends => Stepped::Refused(refusal::CLOCK_LINE, place),
-    }
+    let q = play(p, at, tms_of(line, n), tdi_of(line, n), plan).ok_or(refusal)?;
+    Ok(Progress { lines: place, ..q })
 }
 
-// The answer after the lines that have ended, and where the rest starts.
-#[derive(Drop)]
+// The progress after the lines that have ended, and where the rest starts.
+#[derive(Clone, Copy)]
 pub struct Lines {
-    pub answer: Stepped,
+    pub progress: Progress,
     pub at: usize,
 }
 
-// The lines that have ended in turn, up to a refusal, behind which nothing is held.
-pub fn recover_lines(first: Progress, text: &[u8], plan: &mut [u8]) -> Lines
+// The lines that have ended in turn, up to a refusal.
+pub fn recover_lines(first: Progress, text: &[u8], plan: &mut [u8]) -> Result<Lines, Refusal>
     requires { max_plan_bytes ≤ length plan.old }
-    ensures { DidLines (progress_for first) text.now plan.old (stepped result.answer) result.at plan.new }
+    ensures { DidLines (progress_for first) text.now plan.old result plan.new }
 {
-    let mut p = first;
+    let mut progress = first;
     let mut at: usize = 0;
     let mut guess: usize = 0;
     while at < text.len() {
         let found = find_line(text, at, guess);
         let end = found.end;
         if end == text.len() {
-            return Lines {
-                answer: Stepped::To(p),
-                at,
-            };
+            break;
         }
-        let done = play_line(p, &text[at..end], found.clocks, plan);
-        match done {
-            Stepped::To(q) => p = q,
-            Stepped::Refused(number, place) => {
-                return Lines {
-                    answer: Stepped::Refused(number, place),
-                    at: text.len(),
-                };
-            }
-        }
+        progress = play_line(progress, &text[at..end], found.clocks, plan)?;
         guess = end - at;
         at = end + 1;
     }
-    Lines {
-        answer: Stepped::To(p),
-        at,
-    }
+    Ok(Lines { progress, at })
 }

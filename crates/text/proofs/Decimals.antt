@@ -2,7 +2,7 @@
 -- Assumes nothing.
 use mathlib.Core.Path.{◌≡◌, refl, sym, ap, ◌∙◌}
 use mathlib.Core.Bool.{Bool, true, false, cond, not, ◌&&◌}
-use mathlib.Core.Option.{Option, none, some}
+use Rattle.std.specs.Prelude.{Option, None as none, Some as some}
 use mathlib.Core.List.{[], ◌∷◌}
 use Prim.Native.Nat.{ℕ, ◌+◌, ◌-◌, ◌*◌, ◌^◌, ◌≤◌, ◌<◌}
 use native.Mathlib.Omega.{arith}
@@ -11,14 +11,14 @@ use native.Mathlib.Numerals.{add-one}
 use lib.ListN.{length, drop, get_or, drop_of_length-le}
 use lib.Seq.{drop-cons}
 use lib.Dec.{eqb, leb, ltb, lit≤}
-use borrow.Author.Tests.{eqb-true, leb-true, ltb-true, le-leb, lt-leb, eq-eqb, ne_eqb}
+use borrow.Author.Tests.{eqb-true, leb-true, ltb-true}
+use Rattle.std.proofs.lemmas.Bool.Decides.{nat_tests}
 use Rattle.model.specs.Text.{Bytes, bind, digit, digits_from, leading_zero, decimal}
 use Rattle.model.proofs.Lists.{and_parts, none_some, some_same}
 use Rattle.model.proofs.LineForms.{bound}
 use Rattle.text.specs.declared.Class.{Class}
 use Rattle.text.specs.declared.Class.TheVariants.{Digit, Tab, LineEnd, Other}
-use Rattle.text.specs.declared.Number.{Number}
-use Rattle.text.specs.Numbers.{class_of, digit_or_other, decimal_of, IsDecimal}
+use Rattle.text.specs.Numbers.{class_of, digit_or_other, IsDecimal}
 
 -- ---- classes
 
@@ -40,6 +40,16 @@ class_digit b t h = go (eqb b 9) refl (eqb b 10) refl ∙ ap digit_in (sym h)
     go true p u q = ap digit (eqb-true b 9 p)
     go false p true q = ap digit (eqb-true b 10 q)
     go false p false q = sym (digit_in_law (digit b))
+
+pub class_is : (b : ℕ) → class_of b ≡ cond (eqb b 9) Tab (cond (eqb b 10) LineEnd (cond (leb 48 b && ltb b 58) (Digit (b - 48)) Other))
+unfolding class_of
+class_is b = ap (λ t. cond (eqb b 9) Tab (cond (eqb b 10) LineEnd t)) (go (leb 48 b && ltb b 58))
+  where
+    go : (t : Bool) → digit_or_other (cond t (some (b - 48)) none) ≡ cond t (Digit (b - 48)) Other
+    go true = refl
+    go false = refl
+
+pub ruleset classes = (nat_tests, class_is)
 
 -- ---- digits
 
@@ -82,38 +92,13 @@ digits_small (b ∷ f) v w i k p e h =
 
 -- ---- a decimal field
 
-zero_none : (f : Bytes) → length f ≤ 1 → leading_zero f ≡ false
-zero_none [] h = refl
-zero_none (b ∷ []) h = refl
-zero_none (b ∷ c ∷ f) h = absurd (omega arith)
-
-zero_first : (f : Bytes) → 1 < length f → leading_zero f ≡ eqb (get_or f 0 0) 48
-zero_first [] h = absurd (omega arith)
-zero_first (b ∷ []) h = absurd (omega arith)
-zero_first (b ∷ c ∷ f) h = refl
-
-pub decimal_empty : (f : Bytes) → length f ≡ 0 → none ≡ decimal f
+-- by its length and its first byte
+pub decimal_is : (f : Bytes) → decimal f ≡
+    cond (leb 1 (length f) && (leb (length f) 4 && not (leb 2 (length f) && eqb (get_or f 0 0) 48))) (digits_from 0 f) none
 unfolding decimal
-decimal_empty f h = rw (lt-leb 1 (length f) (omega arith))
-
-pub decimal_long : (f : Bytes) → 4 < length f → none ≡ decimal f
-unfolding decimal
-decimal_long f h = rw (le-leb 1 (length f) (omega arith), lt-leb (length f) 4 h)
-
--- one to four bytes
-module _ (f : Bytes) (some_byte : length f ≡ 0 → ⊥) (few : length f ≤ 4) where
-  by_zero : (z : Bool) → leading_zero f ≡ z → decimal f ≡ cond (not z) (digits_from 0 f) none
-  unfolding decimal
-  by_zero z e = rw (le-leb 1 (length f) (omega arith), le-leb (length f) 4 few, e)
-
-  pub decimal_zero : 1 < length f → get_or f 0 0 ≡ 48 → none ≡ decimal f
-  decimal_zero h e = sym (by_zero true (zero_first f h ∙ eq-eqb _ 48 e))
-
-  pub decimal_digits : 1 < length f → (get_or f 0 0 ≡ 48 → ⊥) → decimal f ≡ digits_from 0 f
-  decimal_digits h e = by_zero false (zero_first f h ∙ ne_eqb _ 48 e)
-
-  pub decimal_digit : length f ≤ 1 → decimal f ≡ digits_from 0 f
-  decimal_digit h = by_zero false (zero_none f h)
+decimal_is [] = refl
+decimal_is (b ∷ []) = refl
+decimal_is (b ∷ c ∷ f) = grind (arith, nat_tests)
 
 pub decimal_small : (f : Bytes) (v : ℕ) → decimal f ≡ some v → v ≤ 9999
 unfolding decimal
@@ -126,5 +111,5 @@ decimal_small f v e = go (leb 1 (length f) && leb (length f) 4 && not (leading_z
         ten_small v (length f) (digits_small f 0 v 0 (length f) (omega arith) q (lit≤ tt)) (leb-true (length f) 4 b.1)
     go false p q = absurd (none_some v q)
 
-pub is_decimal : (f : Bytes) (r : Number) → decimal_of r ≡ decimal f → IsDecimal f r
-is_decimal f r e = record { value = e; small = λ v q. decimal_small f v (sym e ∙ ap decimal_of q) }
+pub is_decimal : (f : Bytes) (r : Option ℕ) → r ≡ decimal f → IsDecimal f r
+is_decimal f r e = record { value = e; small = λ v q. decimal_small f v (sym e ∙ q) }

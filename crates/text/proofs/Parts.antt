@@ -77,21 +77,16 @@ parts_first sep (b ∷ t) = go (eqb b sep) refl (parts_first sep t)
 
 -- ---- the rest of a text from a place on: what a scan finds, byte by byte
 
-pub scan_end : (sep : ℕ) (t : Bytes) (i k : ℕ) → length t ≤ i → i + bytes_before sep (drop i t) ≡ k → i ≡ k
-scan_end sep t i k h q =
-    let z : bytes_before sep (drop i t) ≡ 0 = ap (bytes_before sep) (drop_of_length-le t h) ∙ before_nil sep in
-    omega arith
+pub before_end : (sep : ℕ) (t : Bytes) (i : ℕ) → length t ≤ i → bytes_before sep (drop i t) ≡ 0
+before_end sep t i h = rw (drop_of_length-le t h) (before_nil sep)
 
-pub scan_hit : (sep : ℕ) (t : Bytes) (i k : ℕ) → i < length t → get_or t i 0 ≡ sep → i + bytes_before sep (drop i t) ≡ k → i ≡ k
-scan_hit sep t i k h e q =
-    let z : bytes_before sep (drop i t) ≡ 0 = ap (bytes_before sep) (drop-cons t i 0 h) ∙ before_hit sep _ _ (eq-eqb _ _ e) in
-    omega arith
+pub before_here : (sep : ℕ) (t : Bytes) (i : ℕ) → i < length t → get_or t i 0 ≡ sep → bytes_before sep (drop i t) ≡ 0
+before_here sep t i h e = rw (drop-cons t i 0 h) (before_hit sep _ _ (eq-eqb _ _ e))
 
-pub scan_miss : (sep : ℕ) (t : Bytes) (i k : ℕ) → i < length t → (get_or t i 0 ≡ sep → ⊥) → i + bytes_before sep (drop i t) ≡ k
-    → i + 1 + bytes_before sep (drop (i + 1) t) ≡ k
-scan_miss sep t i k h e q =
-    let z : bytes_before sep (drop i t) ≡ suc (bytes_before sep (drop (suc i) t)) = ap (bytes_before sep) (drop-cons t i 0 h) ∙ before_miss sep _ _ (ne_eqb _ _ e) in
-    rw add-one (omega arith)
+pub before_next : (sep : ℕ) (t : Bytes) (i : ℕ) → i < length t → (get_or t i 0 ≡ sep → ⊥) → bytes_before sep (drop i t) ≡ 1 + bytes_before sep (drop (i + 1) t)
+before_next sep t i h e = rw (drop-cons t i 0 h, add-one i) (omega (arith, before_miss sep (get_or t i 0) (drop (suc i) t) (ne_eqb _ _ e)))
+
+pub ruleset scanning = (before_end, before_here, before_next)
 
 -- ---- the rest of a text from a place on, by the place `end` of its first separator
 

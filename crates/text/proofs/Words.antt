@@ -1,51 +1,62 @@
--- Equal byte strings, and the words, one comparison after the other.
+-- Equal byte strings, and the words by a field's length and bytes.
 -- Assumes nothing.
-use mathlib.Core.Path.{◌≡◌, refl, sym, ap, ◌∙◌}
-use mathlib.Core.Bool.{Bool, true, false, cond, ◌&&◌}
-use mathlib.Core.Option.{Option, none, some}
-use mathlib.Core.List.{List, [], ◌∷◌}
-use Prim.Native.Nat.{ℕ, suc, ◌+◌, ◌≤◌, ◌<◌}
-use native.Mathlib.Numerals.{add-one}
-use lib.ListN.{length, drop, get_or, drop_of_length-le}
-use lib.Seq.{drop-cons}
+use mathlib.Core.Path.{◌≡◌, refl}
+use mathlib.Core.Bool.{Bool, true, cond, ◌&&◌}
+use Rattle.std.specs.Prelude.{None as none, Some as some}
+use Rattle.std.specs.Cmp.Lexicographic.{pointwise}
+use mathlib.Core.List.{[], ◌∷◌}
+use Prim.Native.Nat.{ℕ, suc}
+use native.Mathlib.Omega.{arith}
+use lib.ListN.{length, get_or}
 use lib.Dec.{eqb}
-use Rattle.model.specs.Text.{Bytes, bytes, LineWord, Seg, Mux, Out, Hold, Write, Read, Csu, same, word_of}
-use Rattle.model.proofs.Lists.{and_false_right}
+use Rattle.std.proofs.lemmas.Bool.Decides.{nat_tests}
+use Rattle.model.specs.Text.{Bytes, bytes, Seg, Mux, Out, Hold, Write, Read, Csu, same, word_of}
 
--- ---- two byte strings from place i on, where r says whether they are the same
+-- ---- what `==` and `starts_with` say of two byte strings
 
-module _ (a b : Bytes) (i : ℕ) (r : Bool) (whole : same (drop i a) (drop i b) ≡ r) where
-  pub same_end : length a ≤ i → length b ≤ i → true ≡ r
-  unfolding same
-  same_end h k = (rw (drop_of_length-le a h, drop_of_length-le b k)) ∙ whole
-
-  pub same_next : (t : Bool) → i < length a → i < length b → eqb (get_or a i 0) (get_or b i 0) ≡ t → (t && same (drop (i + 1) a) (drop (i + 1) b)) ≡ r
-  unfolding same
-  same_next t h k e = sym (rw (add-one, drop-cons a i 0 h, drop-cons b i 0 k, same, e)) ∙ whole
-
-pub same_length : (a b : Bytes) → (length a ≡ length b → ⊥) → same a b ≡ false
+pub same_pointwise : (a b : Bytes) → pointwise eqb a b ≡ same a b
 unfolding same
-same_length [] [] h = absurd (h refl)
-same_length [] (y ∷ b) h = refl
-same_length (x ∷ a) [] h = refl
-same_length (x ∷ a) (y ∷ b) h = rw (same_length a b (λ e. h (ap suc e)), and_false_right (eqb x y))
+same_pointwise [] [] = refl
+same_pointwise [] (y ∷ b) = refl
+same_pointwise (x ∷ a) [] = refl
+same_pointwise (x ∷ a) (y ∷ b) = rw (same_pointwise a b)
 
--- ---- the seven words, looked for in turn
+pub same_turned : (a b : Bytes) → same a b ≡ pointwise eqb b a
+unfolding same
+same_turned [] [] = refl
+same_turned [] (y ∷ b) = refl
+same_turned (x ∷ a) [] = refl
+same_turned (x ∷ a) (y ∷ b) = rw (same_turned a b) (grind (arith, nat_tests))
 
-abbrev pub Entry : Type 0
-Entry = Bytes × LineWord
+-- ---- a byte string by its length and its bytes
 
-unfoldable pub first_of : List Entry → Bytes → Option LineWord
-first_of [] f = none
-first_of (e ∷ es) f = cond (same f e.0) (some e.1) (first_of es f)
+abbrev pub reads : Bytes → ℕ → Bytes → Bool
+reads f i [] = true
+reads f i (b ∷ s) = eqb (get_or f i 0) b && reads f (suc i) s
 
-abbrev pub words : List Entry
-words = (bytes "seg", Seg) ∷ (bytes "mux", Mux) ∷ (bytes "out", Out) ∷ (bytes "hold", Hold) ∷ (bytes "write", Write) ∷ (bytes "read", Read) ∷ (bytes "csu", Csu) ∷ []
+abbrev pub has_bytes : Bytes → Bytes → Bool
+has_bytes f s = eqb (length f) (length s) && reads f 0 s
 
-pub word_first : (f : Bytes) → first_of words f ≡ word_of f
-unfolding first_of word_of
-word_first f = refl
+behind : (a : ℕ) (f s : Bytes) (i : ℕ) → reads (a ∷ f) (suc i) s ≡ reads f i s
+behind a f [] i = refl
+behind a f (b ∷ s) i = rw (behind a f s (suc i))
 
-pub word_next : (e : Entry) (es : List Entry) (f : Bytes) (r : Option LineWord) → first_of (e ∷ es) f ≡ r → (t : Bool) → same f e.0 ≡ t → cond t (some e.1) (first_of es f) ≡ r
-unfolding first_of
-word_next e es f r whole t h = sym (rw h) ∙ whole
+pub same_by_bytes : (f s : Bytes) → same f s ≡ has_bytes f s
+unfolding same
+same_by_bytes [] [] = refl
+same_by_bytes [] (b ∷ s) = grind (arith, nat_tests)
+same_by_bytes (a ∷ f) [] = grind (arith, nat_tests)
+same_by_bytes (a ∷ f) (b ∷ s) = rw (same_by_bytes f s, behind a f s 0) (grind (arith, nat_tests))
+
+pub word_by_bytes : (f : Bytes) → word_of f ≡
+    cond (has_bytes f (bytes "seg")) (some Seg)
+    (cond (has_bytes f (bytes "mux")) (some Mux)
+    (cond (has_bytes f (bytes "out")) (some Out)
+    (cond (has_bytes f (bytes "hold")) (some Hold)
+    (cond (has_bytes f (bytes "write")) (some Write)
+    (cond (has_bytes f (bytes "read")) (some Read)
+    (cond (has_bytes f (bytes "csu")) (some Csu) none))))))
+unfolding word_of
+word_by_bytes f = simp same_by_bytes
+
+pub ruleset words = (nat_tests, word_by_bytes)

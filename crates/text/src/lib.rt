@@ -1,15 +1,15 @@
 // The lowest layer of the texts: where a line ends, its fields, decimal fields, words and bits.
 #![tactic(auto)]
 
-ghost use Rattle.std.specs.Prelude.{◌≡◌, [], ◌≤◌, ◌<◌, length, get_or};
-ghost use Rattle.model.specs.Text.{fields, digits_from, same, word_of};
+ghost use Rattle.std.specs.Prelude.{◌≡◌, [], ◌≤◌, ◌<◌, length, get_or, option_map};
+ghost use Rattle.model.specs.Text.{fields, digits_from, word_of};
 ghost use Rattle.text.specs.Places.{IsEnd, IsSplit, FieldStarts};
-ghost use Rattle.text.specs.Numbers.{class_of, decimal_of, IsDecimal};
+ghost use Rattle.text.specs.Numbers.{class_of, IsDecimal};
 ghost use Rattle.text.specs.Words.{word_for};
 ghost use Rattle.text.specs.Bits.{is_bit, all_bits, bits_form};
 
 // A byte by its class.
-#[derive(Drop)]
+#[derive(Clone, Copy, PartialEq, Eq)]
 pub enum Class {
     Digit(usize),
     Tab,
@@ -17,15 +17,8 @@ pub enum Class {
     Other,
 }
 
-// What a decimal field says.
-#[derive(Drop)]
-pub enum Number {
-    Value(usize),
-    Bad,
-}
-
 // The word that a field is.
-#[derive(Drop)]
+#[derive(Clone, Copy, PartialEq, Eq)]
 pub enum LineWord {
     Seg,
     Mux,
@@ -34,7 +27,6 @@ pub enum LineWord {
     Write,
     Read,
     Csu,
-    Unknown,
 }
 
 // The count of a line's fields and the places of the first seven: field k starts at starts[k], and
@@ -46,18 +38,17 @@ pub struct Fields {
 }
 
 // The place of the first byte b at or behind a place, or the length where there is none.
+#[tactic(auto, using(crate::proofs::Parts::scanning))]
 pub fn end_of(s: &[u8], at: usize, b: u8) -> usize
     requires { at ≤ length s.now }
     ensures { IsEnd b s.now at result }
 {
-    let mut i = at;
-    while i < s.len() {
+    for i in at..s.len() {
         if s[i] == b {
             return i;
         }
-        i += 1;
     }
-    i
+    s.len()
 }
 
 // A line's fields, each byte looked at once.
@@ -91,98 +82,62 @@ pub fn field<'a, 'b>(line: &'a [u8], starts: &'b [usize; 8], k: usize) -> &'a [u
 }
 
 // Digit, tab, line end or any other byte.
+#[tactic(auto, using(crate::proofs::Decimals::classes))]
 pub fn class_of(b: u8) -> Class
     ensures { result ≡ class_of b }
 {
     match b {
         b'\t' => Class::Tab,
         b'\n' => Class::LineEnd,
-        b'0'..=b'9' => Class::Digit((b - b'0') as usize),
+        b'0'..=b'9' => Class::Digit(usize::from(b - b'0')),
         _ => Class::Other,
     }
 }
 
 // The number that at most four digits give.
-fn digits_of(f: &[u8]) -> Number
+fn digits_of(f: &[u8]) -> Option<usize>
     requires { length f.now ≤ 4 }
-    ensures { decimal_of result ≡ digits_from 0 f.now }
+    ensures { result ≡ digits_from 0 f.now }
 {
     let mut v: usize = 0;
-    let mut i: usize = 0;
-    while i < f.len() {
-        let class = class_of(f[i]);
-        let Class::Digit(d) = class else {
-            return Number::Bad;
+    for b in f {
+        let Class::Digit(d) = class_of(*b) else {
+            return None;
         };
         v = v * 10 + d;
-        i += 1;
     }
-    Number::Value(v)
+    Some(v)
 }
 
 // A decimal field's number: one to four digits, no leading zero.
-pub fn decimal_of(f: &[u8]) -> Number
+pub fn decimal_of(f: &[u8]) -> Option<usize>
     ensures { IsDecimal f.now result }
 {
     let n = f.len();
-    if n == 0 {
-        return Number::Bad;
+    if n == 0 || 4 < n {
+        return None;
     }
-    if 4 < n {
-        return Number::Bad;
-    }
-    if 1 < n {
-        if f[0] == b'0' {
-            return Number::Bad;
-        }
+    if 1 < n && f[0] == b'0' {
+        return None;
     }
     digits_of(f)
 }
 
-// Whether two byte strings are the same.
-pub fn equal(a: &[u8], b: &[u8]) -> bool
-    ensures { result ≡ same a.now b.now }
-{
-    let n = a.len();
-    if n != b.len() {
-        return false;
-    }
-    let mut i: usize = 0;
-    while i < n {
-        if a[i] != b[i] {
-            return false;
-        }
-        i += 1;
-    }
-    true
-}
-
 // The word that a field is.
-pub fn word_of(f: &[u8]) -> LineWord
-    ensures { word_for result ≡ word_of f.now }
+#[tactic(auto, using(crate::proofs::Words::words))]
+pub fn word_of(f: &[u8]) -> Option<LineWord>
+    ensures { option_map word_for result ≡ word_of f.now }
 {
-    if equal(f, b"seg") {
-        return LineWord::Seg;
+    match f {
+        b"seg" => Some(LineWord::Seg),
+        b"mux" => Some(LineWord::Mux),
+        b"out" => Some(LineWord::Out),
+        b"hold" => Some(LineWord::Hold),
+        b"write" => Some(LineWord::Write),
+        b"read" => Some(LineWord::Read),
+        b"csu" => Some(LineWord::Csu),
+        _ => None,
     }
-    if equal(f, b"mux") {
-        return LineWord::Mux;
-    }
-    if equal(f, b"out") {
-        return LineWord::Out;
-    }
-    if equal(f, b"hold") {
-        return LineWord::Hold;
-    }
-    if equal(f, b"write") {
-        return LineWord::Write;
-    }
-    if equal(f, b"read") {
-        return LineWord::Read;
-    }
-    if equal(f, b"csu") {
-        return LineWord::Csu;
-    }
-    LineWord::Unknown
 }
 
 // Whether a byte is a bit, `X` where unknown ones are allowed.
@@ -197,26 +152,23 @@ fn is_bit(b: u8, unknown: bool) -> bool
 }
 
 // Whether all bytes are bits, none included. The loop has no early exit, so that the compiler can compare many bytes at once.
+#[tactic(auto, using(crate::proofs::Bits::listing))]
 pub fn all_bits(s: &[u8], unknown: bool) -> bool
     ensures { result ≡ all_bits unknown s.now }
 {
     let mut all = true;
-    let mut i: usize = 0;
-    while i < s.len() {
-        if !is_bit(s[i], unknown) {
+    for b in s {
+        if !is_bit(*b, unknown) {
             all = false;
         }
-        i += 1;
     }
     all
 }
 
 // Whether a BITS or RESET field has good form: at least one bit and nothing else.
+#[tactic(auto, using(crate::proofs::Bits::form_by_length))]
 pub fn are_bits(f: &[u8], unknown: bool) -> bool
     ensures { result ≡ bits_form unknown f.now }
 {
-    if f.len() == 0 {
-        return false;
-    }
-    all_bits(f, unknown)
+    !f.is_empty() && all_bits(f, unknown)
 }

@@ -53,7 +53,7 @@ fn sorted(mut numbers: Vec<u32>) -> Vec<u32> {
 fn every_number_in_every_list() {
     let constants = numbers(&equations(&read("tests/rust/src/refusal.rs"), "pub const ", ";"));
     assert!(constants.len() >= 19 && constants.windows(2).all(|pair| pair[0] < pair[1]));
-    let code = equations(&read("crates/model/src/refusal.rt"), "pub const ", ";");
+    let code = equations(&read("crates/model/src/refusal.rt"), "    ", ",");
     assert_eq!(numbers(&code), constants, "refusal.rt");
     let defined = equations(&read("crates/model/specs/Refusals.antt"), "", "");
     assert_eq!(numbers(&defined), constants, "Refusals.antt");

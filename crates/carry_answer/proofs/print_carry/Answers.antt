@@ -5,12 +5,12 @@ use Rattle.carry_answer.proofs.CarryShown.{carry_written, carry_refused}
 use Rattle.program_text.proofs.Front.{printed_to}
 use Rattle.carry_answer.proofs.print_carry.Goals as goal
 
-pub returns-in-Written : goal.returns-in-Written
-returns-in-Written c =
-    let p = printed_to _ _ (carry_written _ _ _ (search rules) _ _ c.carry-carried.ensures _ c.in-Written.is) in
+pub returns-in-Ok : goal.returns-in-Ok
+returns-in-Ok c =
+    let p = printed_to _ _ (carry_written _ _ _ (search rules) _ _ c.in-Ok.ensures) in
     record { printed_to = p.0; prefix_len = p.1 }
 
-pub returns-in-Refused : goal.returns-in-Refused
-returns-in-Refused c =
-    let p = printed_to _ _ (carry_refused _ _ _ (search rules) _ _ c.carry-carried.ensures _ _ c.in-Refused.is c.put_refusal.ensures) in
+pub returns-in-Err : goal.returns-in-Err
+returns-in-Err c =
+    let p = printed_to _ _ (carry_refused _ _ _ (search rules) _ _ c.in-Err.ensures c.put_refusal.ensures) in
     record { printed_to = p.0; prefix_len = p.1 }

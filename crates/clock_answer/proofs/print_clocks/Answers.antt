@@ -9,14 +9,14 @@ use Rattle.program_text.proofs.Front.{at_front, printed_to}
 use Rattle.clock_answer.proofs.print_clocks.Goals as goal
 
 pub put_operations-requires : goal.put_operations-requires
-put_operations-requires c = let g = form_good _ _ _ c.check_form-form.ensures c.in-Good.is in
+put_operations-requires c = let g = form_good _ _ _ c.check_form.ensures c.in-Ok.is in
     record { has_form = (g.plan, g.reads); room = omega (arith, (text_of _ _ g.reads).short) }
 
-pub returns-in-Good : goal.returns-in-Good
-returns-in-Good c = let w = printed_to _ _ (at_front _ _ refl c.put_operations.ensures) in
+pub returns-in-Ok : goal.returns-in-Ok
+returns-in-Ok c = let w = printed_to _ _ (at_front _ _ refl c.put_operations.ensures) in
     record { printed_to = w.0; prefix_len = w.1 }
 
-pub returns-in-Refused : goal.returns-in-Refused
-returns-in-Refused c = let bad = form_refused _ _ _ c.check_form-form.ensures c.in-Refused.is in
+pub returns-in-Err : goal.returns-in-Err
+returns-in-Err c = let bad = form_refused _ _ _ c.check_form.ensures c.in-Err.is in
     let w = printed_to _ _ (at_front _ _ (clocks_refused _ _ _ bad) c.put_refusal.ensures) in
     record { printed_to = w.0; prefix_len = w.1 }

@@ -14,21 +14,9 @@ bits_at-bits-requires c = omega (arith, line_within _ _ _ _ _ c.loop-at.invarian
 pub put_operation-next-requires : goal.put_operation-next-requires
 put_operation-next-requires c = omega (arith, line_fits _ _ _ _ _ c.loop-at.invariant c.loop-at-test.true _ c.bits_at-bits.ensures c.requires.room)
 
-pub overflow_add-at : goal.overflow_add-at
-overflow_add-at c = omega (arith, line_within _ _ _ _ _ c.loop-at.invariant c.loop-at-test.true _ c.bits_at-bits.ensures)
-
-pub overflow_add-at-in-loop-at : goal.overflow_add-at-in-loop-at
-overflow_add-at-in-loop-at c = omega (arith, line_within _ _ _ _ _ c.loop-at.invariant c.loop-at-test.true _ c.bits_at-bits.ensures)
-
-pub loop-at-smaller : goal.loop-at-smaller
-loop-at-smaller c = omega (arith, line_within _ _ _ _ _ c.loop-at.invariant c.loop-at-test.true _ c.bits_at-bits.ensures)
-
 pub loop-at-preserved : goal.loop-at-preserved
 loop-at-preserved c = let wrote = c.put_operation-next in
     clocked_line _ _ _ _ _ c.loop-at.invariant c.loop-at-test.true _ c.bits_at-bits.ensures c.requires.room _ _ _ wrote.ensures wrote.auto.out refl
-
-pub shape_of-out : goal.shape_of-out
-shape_of-out c = c.loop-at.invariant.kept
 
 pub returns : goal.returns
 returns c = clocked_all _ _ _ _ _ c.loop-at.invariant c.loop-at-test.false

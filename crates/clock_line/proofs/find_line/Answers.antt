@@ -1,16 +1,9 @@
 -- `clock_line::find_line` meets its contract.
 -- Assumes nothing.
 use native.Mathlib.Omega.{arith}
-use Rattle.clock_line.proofs.Ends.{clocks_end}
-use Rattle.clock_line.proofs.Lines.{counted_clocks}
+use Rattle.clock_line.proofs.Ends.{found_clocks}
 use Rattle.clock_line.proofs.find_line.Goals as goal
 
-pub returns-then-text-near-eq10 : goal.returns-then-text-near-eq10
-returns-then-text-near-eq10 c = let a = c.args in
-    record {
-      ends = clocks_end a.text.now a.at _ _ (omega arith) (omega (arith, c.if-guess-text.true)) c.if-text-near-eq10.true (counted_clocks _ _ c.count_clocks-n.ensures c.if-n-ne0.true);
-      counts = c.count_clocks-n.ensures;
-    }
-
-pub returns : goal.returns
-returns c = record { ends = c.far_end_of-end.ensures; counts = c.count_clocks.ensures }
+pub returns-then-behind-eq10 : goal.returns-then-behind-eq10
+returns-then-behind-eq10 c =
+    found_clocks c.args.text.now _ _ _ (omega arith) (omega (arith, c.if-guess-text.true)) c.if-behind-eq10.true c.if-is_some.ensures c.count_clocks-clocks.ensures

@@ -1,13 +1,10 @@
--- `clock_writer::run` meets its contract. The loop's invariant: from s on, the clocks from i on lead to the last state.
+-- `clock_writer::run` meets its contract. The loop's invariant: from the state now on, the clocks from here on lead to the last state.
 -- Assumes nothing.
-use borrow.Author.Rules.{rules}
-use Rattle.clock_writer.proofs.Table.{run_end, run_next}
+use Rattle.clock_writer.proofs.Table.{code_small, run_end, run_next}
 use Rattle.clock_writer.proofs.run.Goals as goal
 
-pub loop-i-preserved : goal.loop-i-preserved
-loop-i-preserved c = let l = c.loop-i in
-    let n = run_next c.args.tms.now l.s l.i _ l.invariant.2 _ c.loop-i-test.true c.next_state-s.ensures in
-    (search rules, n.0, n.1)
+pub loop-byte-preserved : goal.loop-byte-preserved
+loop-byte-preserved c = run_next _ _ _ _ c.loop-byte.invariant _ c.loop-byte-test.true c.next_state-now.ensures
 
 pub returns : goal.returns
-returns c = run_end _ _ _ _ c.loop-i.invariant.2 c.loop-i.invariant.1 c.loop-i-test.false
+returns c = run_end _ _ _ _ c.loop-byte.invariant (code_small _) c.loop-byte-test.false

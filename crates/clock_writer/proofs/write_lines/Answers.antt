@@ -21,20 +21,10 @@ write_tdi-at-requires c =
     let kept = written_kept _ _ _ _ _ _ c.loop-at.invariant c.requires.room.0 c.requires.room.1 in
     omega (arith, kept.1, line_within _ _ _ _ _ _ c.loop-at.invariant c.loop-at-test.true _ c.bits_at-bits.ensures)
 
-pub loop-at-smaller : goal.loop-at-smaller
-loop-at-smaller c =
-    omega (arith, c.write_tdi-at.ensures.value, line_within _ _ _ _ _ _ c.loop-at.invariant c.loop-at-test.true _ c.bits_at-bits.ensures)
-
 pub loop-at-preserved : goal.loop-at-preserved
 loop-at-preserved c = let p = c.requires.room in
     written_line _ _ _ _ _ _ c.loop-at.invariant c.loop-at-test.true _ c.bits_at-bits.ensures p.0 p.1 _ _ _
     c.write_tms.ensures.tms_after c.write_tdi-at.ensures.tdi_after c.write_tdi-at.ensures.value
-
-pub shape_of-tms : goal.shape_of-tms
-shape_of-tms c = (written_kept _ _ _ _ _ _ c.loop-at.invariant c.requires.room.0 c.requires.room.1).0
-
-pub shape_of-tdi : goal.shape_of-tdi
-shape_of-tdi c = (written_kept _ _ _ _ _ _ c.loop-at.invariant c.requires.room.0 c.requires.room.1).1
 
 pub returns : goal.returns
 returns c = let all = written_all _ _ _ _ _ _ c.loop-at.invariant c.loop-at-test.false in

@@ -5,9 +5,6 @@ use Rattle.model.specs.Text.{bytes}
 use Rattle.plan_text.proofs.Writing.{write_three}
 use Rattle.clock_writer.proofs.write_tdi.Goals as goal
 
-pub returns-clause-value : goal.returns-clause-value
-returns-clause-value c = omega (arith, c.put-shift.ensures.value, c.put-exit.ensures.value, c.put.ensures.value)
-
 pub returns-clause-tdi_after : goal.returns-clause-tdi_after
 returns-clause-tdi_after c = let a = c.args in
     write_three a.at _ _ (bytes "000") a.bits.now (bytes "00") a.tdi.now (omega arith)

@@ -8,19 +8,8 @@ use lib.ListN.{length, replicate, length-replicate}
 use Rattle.model.specs.Text.{bytes}
 use Rattle.plan_text.specs.Writing.{write_at}
 use Rattle.plan_text.proofs.Writing.{write_three}
-use Rattle.clock_writer.specs.Clocks.{tms_bytes}
 use Rattle.clock_writer.proofs.Rows.{tms_some}
 use Rattle.clock_writer.proofs.write_tms.Goals as goal
-
-pub returns-then-n-eq0-clause-value : goal.returns-then-n-eq0-clause-value
-returns-then-n-eq0-clause-value c = omega (arith, c.put.ensures.value)
-
-pub returns-then-n-eq0-clause-tms_after : goal.returns-then-n-eq0-clause-tms_after
-returns-then-n-eq0-clause-tms_after c = let a = c.args in
-    c.put.ensures.buf_after ∙ ap (λ (k : ℕ). write_at a.at (tms_bytes k) a.tms.now) (sym c.if-n-eq0.true)
-
-pub returns-clause-value : goal.returns-clause-value
-returns-clause-value c = omega (arith, c.put-shift.ensures.value, c.put_repeated-last.ensures.value, c.put-2.ensures.value)
 
 pub returns-clause-tms_after : goal.returns-clause-tms_after
 returns-clause-tms_after c = let a = c.args in

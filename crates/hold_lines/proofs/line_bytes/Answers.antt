@@ -8,16 +8,10 @@ use Rattle.program_lines.proofs.Digits.{at_most_20}
 use Rattle.hold_lines.proofs.Text.{mux_line_law, segment_bytes}
 use Rattle.hold_lines.proofs.line_bytes.Goals as goal
 
-pub is_segment-requires : goal.is_segment-requires
-is_segment-requires c = c.requires.0.most
-
 pub overflow_add-result : goal.overflow_add-result
 overflow_add-result c =
     let n = at_most_20 c.args.s (search rules) in
     omega (arith, n, c.digit_count.ensures)
-
-pub segment_len-requires : goal.segment_len-requires
-segment_len-requires c = c.requires.0.most
 
 pub overflow_add-result-then-is_segment : goal.overflow_add-result-then-is_segment
 overflow_add-result-then-is_segment c =
@@ -38,8 +32,5 @@ returns-then-is_segment c =
       upper_bound = omega (arith, n, l, d, e);
     }
 
-pub returns : goal.returns
-returns c = record {
-  line_length = λ bits known. sym (ap length (mux_line_law _ _ bits known (sym c.is_segment.ensures ∙ c.if-is_segment.false)));
-  upper_bound = omega arith;
-}
+pub returns-clause-line_length : goal.returns-clause-line_length
+returns-clause-line_length c = λ bits known. sym (ap length (mux_line_law _ _ bits known (sym c.is_segment.ensures ∙ c.if-is_segment.false)))

@@ -16,14 +16,6 @@ loop-b-init c =
     let a = c.args in
     (omega arith, omega arith, refl, sym (ap (λ (l : List ℕ). write_at a.at l a.out.now) (down_none a.len (trit_at a.bits a.known)) ∙ write_none _ _))
 
-pub byte_at-requires : goal.byte_at-requires
-byte_at-requires c = omega (arith, c.loop-b.invariant.0, c.requires.0)
-
-pub bounds-out-next : goal.bounds-out-next
-bounds-out-next c =
-    let v = c.loop-b.invariant in
-    omega (arith, v.0, v.1, v.2, c.requires.1)
-
 pub loop-b-preserved : goal.loop-b-preserved
 loop-b-preserved c =
     let a = c.args in
@@ -34,14 +26,8 @@ loop-b-preserved c =
       down_more a.len (trit_at a.bits a.known) _ _ _ _ _ _ c.loop-b-test.true v.0 c.requires.1 v.1 c.byte_at.ensures v.3,
     )
 
-pub shape_of-out : goal.shape_of-out
-shape_of-out c = c.loop-b.invariant.2
-
-pub returns : goal.returns
-returns c =
+pub returns-clause-puts : goal.returns-clause-puts
+returns-clause-puts c =
     let a = c.args in
     let v = c.loop-b.invariant in
-    record {
-      puts = down_done a.len (trit_at a.bits a.known) _ _ _ _ _ c.loop-b-test.false v.1 v.3;
-      value = omega (arith, v.1, c.loop-b-test.false);
-    }
+    down_done a.len (trit_at a.bits a.known) _ _ _ _ _ c.loop-b-test.false v.1 v.3

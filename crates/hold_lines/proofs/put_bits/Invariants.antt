@@ -10,6 +10,3 @@ use Rattle.hold_lines.proofs.put_bits.Given as goal
 
 abbrev pub invariant-loop-b : goal.invariant-loop-b
 invariant-loop-b l = (l.b ≤ l.len) × (l.next ≡ l.at + (l.len - l.b)) × (length l.out ≡ length l.initial.out) × (l.out ≡ write_at l.at (down_to l.len (trit_at l.bits l.known) l.b) l.initial.out)
-
-abbrev pub decreases-loop-b : goal.decreases-loop-b
-decreases-loop-b l = l.b

@@ -13,9 +13,9 @@ use Rattle.marker_operations.proofs.Running.{Going}
 use Rattle.marker_operations.proofs.run_lines.Given as goal
 
 abbrev pub invariant-loop-at : goal.invariant-loop-at
-invariant-loop-at l = let start = state l.initial.way l.initial.bits l.initial.known l.initial.first l.initial.places in
-    (net : Network) (whole : Plan) → read_plan l.plan ≡ ok whole → OnPath net l.nodes l.t l.count l.length start
-    → Going net whole l.nodes l.t l.plan (run_from net 1 (path_at l.nodes l.count start) (config_at l.nodes l.t start.marking) whole) l.at l.k l.n l.len (state l.way l.bits l.known l.first l.places)
+invariant-loop-at l = let first = state l.initial.way l.initial.bits l.initial.known l.initial.met in
+    (net : Network) (whole : Plan) → read_plan l.plan ≡ ok whole → OnPath net l.nodes l.t l.fn.start first
+    → Going net whole l.nodes l.t l.plan (run_from net 1 (path_at l.nodes l.fn.start.segments first) (config_at l.nodes l.t first.marking) whole) l.at l.k l.path (state l.way l.bits l.known l.met)
 
 abbrev pub decreases-loop-at : goal.decreases-loop-at
 decreases-loop-at l = length l.plan - l.at

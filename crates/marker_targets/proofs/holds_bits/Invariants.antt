@@ -1,6 +1,5 @@
 -- `marker_targets::holds_bits` meets its contract. The invariant: the bits from number b on decide.
 -- Assumes nothing.
-use Prim.Native.Nat.{◌-◌}
 use mathlib.Core.Path.{◌≡◌}
 use Rattle.model.specs.Mark.{holds_bits}
 use Rattle.model.specs.Network.{tabulate}
@@ -10,6 +9,3 @@ use Rattle.marker_targets.proofs.holds_bits.Given as goal
 
 abbrev pub invariant-loop-b : goal.invariant-loop-b
 invariant-loop-b l = held_from l.bits l.known l.want l.len l.b ≡ holds_bits (trits_of l.len l.bits l.known) (tabulate (word_bit l.want) 0 l.len)
-
-abbrev pub decreases-loop-b : goal.decreases-loop-b
-decreases-loop-b l = l.len - l.b

@@ -8,74 +8,65 @@ use native.Mathlib.Omega.{arith}
 use mathlib.Core.Path.{◌≡◌, refl, sym, ap, ◌∙◌}
 use borrow.Author.Rules.{rules}
 use Rattle.model.specs.Network.{len_of}
-use Rattle.model.specs.NetworkText.{with_hold}
 use Rattle.model.specs.Text.{trit}
 use Rattle.network_path.specs.Layout.{node_at}
 use Rattle.network_path.proofs.NodeLaws.{node_in}
 use Rattle.network_line.specs.Line.{bits_in}
 use Rattle.network_draft.proofs.GivenBits.{bits_in_length, by_hold_law}
-use Rattle.network_draft.proofs.Representing.{agrees_refused, agrees_ok, represented_out, represented_len}
+use Rattle.network_draft.proofs.Representing.{represented_out, represented_len}
 use Rattle.network_entries.proofs.AddingHolds.{unfit_none, unfit_length, fit, hold_4, hold_6, held_6, hold_added, with_hold_law}
 use Rattle.network_entries.proofs.add_hold.Goals as goal
 
 pub returns-then-not-t : goal.returns-then-not-t
 returns-then-not-t c = λ steering d form w.
     let out = represented_out w ∙ not-true _ c.if-not-t.true in
-    agrees_refused _ _ _ 4 c.args.n (hold_4 d c.args.n c.args.s (bits_in trit c.args.f.now) out) refl
+    rw (c.at.ensures, hold_4 d c.args.n c.args.s (bits_in trit c.args.f.now) out) (refl, refl)
 
-pub returns-then-len-eq0 : goal.returns-then-len-eq0
-returns-then-len-eq0 c = let bs = bits_in trit c.args.f.now in
+pub returns-in_default : goal.returns-in_default
+returns-in_default c = let bs = bits_in trit c.args.f.now in
     λ steering d form w.
     let out = represented_out w ∙ not-false _ c.if-not-t.false in
-    let len = represented_len w c.len_of-len.result c.args.s c.len_of-len.ensures.0 in
-    agrees_refused _ _ _ 6 c.args.n (hold_6 d c.args.n c.args.s bs out (unfit_none w c.args.s bs (len ∙ c.if-len-eq0.true))) refl
+    let unfit = unfit_none w c.args.s bs (represented_len w 0 c.args.s c.in_default.ensures.long) in
+    rw (c.at-in_default.ensures, hold_6 d c.args.n c.args.s bs out unfit) (refl, refl)
 
 pub returns-then-f-len : goal.returns-then-f-len
 returns-then-f-len c = let bs = bits_in trit c.args.f.now in
     λ steering d form w.
     let out = represented_out w ∙ not-false _ c.if-not-t.false in
-    let len = represented_len w c.len_of-len.result c.args.s c.len_of-len.ensures.0 in
+    let len = represented_len w c.in-Some.len c.args.s c.in-Some.ensures.long in
     let unfit = unfit_length w c.args.s bs (λ z. c.if-f-len.true (sym (bits_in_length trit c.args.f.now form) ∙ z ∙ len)) in
-    agrees_refused _ _ _ 6 c.args.n (hold_6 d c.args.n c.args.s bs out unfit) refl
-
-pub offset_bounds-held-s : goal.offset_bounds-held-s
-offset_bounds-held-s c = omega (arith, (c.len_of-len.ensures.1 (omega arith)).1, c.requires.0.nodes_fit)
-
-pub bounds-held-s : goal.bounds-held-s
-bounds-held-s c = omega (arith, (c.len_of-len.ensures.1 (omega arith)).1, c.requires.0.nodes_fit)
+    rw (c.at-then-f-len.ensures, hold_6 d c.args.n c.args.s bs out unfit) (refl, refl)
 
 pub returns-then-held-s-eq-BY_HOLD : goal.returns-then-held-s-eq-BY_HOLD
 returns-then-held-s-eq-BY_HOLD c =
-    let there = c.len_of-len.ensures.1 (omega arith) in
-    let in-range : c.args.s ≤ 128 = omega (arith, there.1, c.requires.0.nodes_fit) in
+    let there = c.in-Some.ensures.there in
+    let in-range : c.args.s ≤ 128 = omega (arith, there.2, c.requires.0.nodes_fit) in
     λ steering d form w.
-    let len = represented_len w c.len_of-len.result c.args.s c.len_of-len.ensures.0 in
+    let len = represented_len w c.in-Some.len c.args.s c.in-Some.ensures.long in
     let many = bits_in_length trit c.args.f.now form ∙ c.if-f-len.false ∙ sym len in
-    let fits = fit w c.args.s (bits_in trit c.args.f.now) (λ z. c.if-len-eq0.false (sym len ∙ z)) many in
+    let fits = fit w c.args.s (bits_in trit c.args.f.now) (λ z. omega (arith, there.0, len, z)) many in
     let out = represented_out w ∙ not-false _ c.if-not-t.false in
     let again = sym (by_hold_law w c.args.s in-range) ∙ eq-eqb _ 1 c.if-held-s-eq-BY_HOLD.true in
-    agrees_refused _ _ _ 6 c.args.n (held_6 d c.args.n c.args.s (bits_in trit c.args.f.now) out fits again) refl
+    rw (c.at-then-held-s-eq-BY_HOLD.ensures, held_6 d c.args.n c.args.s (bits_in trit c.args.f.now) out fits again) (refl, refl)
 
 pub store_start-requires : goal.store_start-requires
 store_start-requires c =
-    let there = c.len_of-len.ensures.1 (omega arith) in
-    let in-range : c.args.s ≤ 128 = omega (arith, there.1, c.requires.0.nodes_fit) in
-    let its-length : length c.args.f.now ≡ len_of (node_at c.args.nodes.now c.args.s) = c.if-f-len.false ∙ c.len_of-len.ensures.0 ∙ ap len_of (node_in _ _ _ there.0 there.1) in
-    (in-range, omega (arith, its-length, c.requires.1 _ there.0 there.1), search rules, search rules, search rules)
+    let there = c.in-Some.ensures.there in
+    let its-length : length c.args.f.now ≡ len_of (node_at c.args.nodes.now c.args.s) = c.if-f-len.false ∙ c.in-Some.ensures.long ∙ ap len_of (node_in _ _ _ there.1 there.2) in
+    (omega (arith, there.2, c.requires.0.nodes_fit), omega (arith, its-length, c.requires.1 _ there.1 there.2), search rules, search rules, search rules)
 
 pub returns : goal.returns
 returns c =
-    let there = c.len_of-len.ensures.1 (omega arith) in
-    let in-range : c.args.s ≤ 128 = omega (arith, there.1, c.requires.0.nodes_fit) in
-    let its-length : length c.args.f.now ≡ len_of (node_at c.args.nodes.now c.args.s) = c.if-f-len.false ∙ c.len_of-len.ensures.0 ∙ ap len_of (node_in _ _ _ there.0 there.1) in
+    let there = c.in-Some.ensures.there in
+    let in-range : c.args.s ≤ 128 = omega (arith, there.2, c.requires.0.nodes_fit) in
+    let its-length : length c.args.f.now ≡ len_of (node_at c.args.nodes.now c.args.s) = c.if-f-len.false ∙ c.in-Some.ensures.long ∙ ap len_of (node_in _ _ _ there.1 there.2) in
     let bs = bits_in trit c.args.f.now in
     let stored = c.store_start.ensures in
     λ steering d form w.
-    let len = represented_len w c.len_of-len.result c.args.s c.len_of-len.ensures.0 in
+    let len = represented_len w c.in-Some.len c.args.s c.in-Some.ensures.long in
     let many = bits_in_length trit c.args.f.now form ∙ c.if-f-len.false ∙ sym len in
-    let fits = fit w c.args.s (bits_in trit c.args.f.now) (λ z. c.if-len-eq0.false (sym len ∙ z)) many in
+    let fits = fit w c.args.s bs (λ z. omega (arith, there.0, len, z)) many in
     let out = represented_out w ∙ not-false _ c.if-not-t.false in
     let fresh = sym (by_hold_law w c.args.s in-range) ∙ ne_eqb _ 1 c.if-held-s-eq-BY_HOLD.false in
     let is = hold_added d c.args.n c.args.s bs out fits fresh in
-    agrees_ok _ _ _ (with_hold d c.args.s bs) is refl
-    (rw (stored.bits_are, stored.known_are, stored.flags_are) (with_hold_law w c.args.s c.args.f.now form in-range its-length fresh is))
+    rw (is, stored.bits_are, stored.known_are, stored.flags_are) (with_hold_law w c.args.s c.args.f.now form in-range its-length fresh is)

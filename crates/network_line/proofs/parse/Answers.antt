@@ -1,53 +1,61 @@
 -- `network_line::parse` meets its contract, word by word.
 -- Assumes nothing.
-use mathlib.Core.Path.{◌≡◌, refl, sym, ap, ◌∙◌}
+use mathlib.Core.Path.{refl, ap, ◌∙◌}
+use Rattle.std.specs.Prelude.{None as none, option_map}
+use Rattle.model.specs.Network.{read}
+use Rattle.model.specs.NetworkText.{out, target}
 use native.Mathlib.Omega.{arith}
-use Rattle.model.specs.NetworkText.{field, line_by}
-use Rattle.model.specs.Text.{Bytes, bind, tab, fields, word_of}
-use Rattle.text.specs.declared.LineWord.TheVariants.{Seg, Mux, Out, Hold, Write, Read, Csu, Unknown}
-use Rattle.text.specs.declared.LineWord.{LineWord}
-use Rattle.text.specs.Words.{word_for}
-use Rattle.network_line.specs.declared.ParsedLine.{ParsedLine}
-use Rattle.network_line.specs.Line.{IsParsed, IsParsedLine}
-use Rattle.network_line.proofs.Lines.{parts_some, wrong, plain_line_law, word_line}
+use Rattle.model.specs.Text.{tab}
+use Rattle.network_line.proofs.Lines.{parts_some, no_word, by_word, no_line, plain_line, number_law}
 use Rattle.network_line.proofs.parse.Goals as goal
-
--- the line by its word, which its first field is
-by_word : {l f : Bytes} {found : LineWord} {r : ParsedLine} (w : LineWord) → f ≡ field (fields l) 0 → word_for found ≡ word_of f → found ≡ w
-    → IsParsed l (bind (word_for w) (line_by (fields l))) r → IsParsedLine l r
-by_word {l} {r = r} w is word e p = word_line l (word_for w) r (sym (word ∙ ap word_of is) ∙ ap word_for e) p
 
 pub field-requires : goal.field-requires
 field-requires c = (omega arith, parts_some tab _, c.split-f.ensures.placed)
 
+pub returns-in_err-word_of : goal.returns-in_err-word_of
+returns-in_err-word_of c = rw c.from_residual.ensures (no_word _ _ c.field.ensures c.in_err-word_of.ensures)
+
 pub returns-in-Seg : goal.returns-in-Seg
-returns-in-Seg c =
-    by_word Seg c.field.ensures c.word_of-w.ensures c.in-Seg.is c.seg_line.ensures
+returns-in-Seg c = by_word _ _ c.field.ensures _ _ _ c.in_ok-word_of.ensures c.in-Seg.is c.seg_line.ensures
 
-pub returns-in-Mux : goal.returns-in-Mux
-returns-in-Mux c =
-    by_word Mux c.field.ensures c.word_of-w.ensures c.in-Mux.is (plain_line_law _ _ _ _ c.plain.ensures c.mux_line.ensures)
+pub returns-in_err-mux_line-in-Mux : goal.returns-in_err-mux_line-in-Mux
+returns-in_err-mux_line-in-Mux c =
+    rw c.from_residual-in_err-mux_line-in-Mux.ensures
+    (by_word _ _ c.field.ensures _ _ _ c.in_ok-word_of.ensures c.in-Mux.is (no_line _ c.in_err-mux_line-in-Mux.ensures.means))
 
-pub returns-in-Out : goal.returns-in-Out
-returns-in-Out c =
-    by_word Out c.field.ensures c.word_of-w.ensures c.in-Out.is (plain_line_law _ _ _ _ c.plain-in-Out.ensures c.number_line.ensures)
+pub returns-in_ok-mux_line-in-Mux : goal.returns-in_ok-mux_line-in-Mux
+returns-in_ok-mux_line-in-Mux c =
+    let line = c.in_ok-mux_line-in-Mux.ensures in
+    by_word _ _ c.field.ensures _ _ _ c.in_ok-word_of.ensures c.in-Mux.is (plain_line _ _ _ c.plain.ensures line.means line.good)
+
+pub returns-in_err-number_line-in-Out : goal.returns-in_err-number_line-in-Out
+returns-in_err-number_line-in-Out c =
+    let line = c.in_err-number_line-in-Out.ensures in
+    rw c.from_residual-in_err-number_line-in-Out.ensures
+    (by_word _ _ c.field.ensures _ _ _ c.in_ok-word_of.ensures c.in-Out.is (no_line _ (ap (option_map out) line.value ∙ number_law out _)))
+
+pub returns-in_ok-number_line-in-Out : goal.returns-in_ok-number_line-in-Out
+returns-in_ok-number_line-in-Out c =
+    let line = c.in_ok-number_line-in-Out.ensures in
+    by_word _ _ c.field.ensures _ _ _ c.in_ok-word_of.ensures c.in-Out.is (plain_line _ _ _ c.plain-in-Out.ensures (ap (option_map out) line.value ∙ number_law out _) line.small)
 
 pub returns-in-Hold : goal.returns-in-Hold
-returns-in-Hold c =
-    by_word Hold c.field.ensures c.word_of-w.ensures c.in-Hold.is c.bits_line.ensures
+returns-in-Hold c = by_word _ _ c.field.ensures _ _ _ c.in_ok-word_of.ensures c.in-Hold.is c.bits_line.ensures
 
 pub returns-in-Write : goal.returns-in-Write
-returns-in-Write c =
-    by_word Write c.field.ensures c.word_of-w.ensures c.in-Write.is c.bits_line-in-Write.ensures
-
-pub returns-in-Read : goal.returns-in-Read
-returns-in-Read c =
-    by_word Read c.field.ensures c.word_of-w.ensures c.in-Read.is (plain_line_law _ _ _ _ c.plain-in-Read.ensures c.number_line-in-Read.ensures)
+returns-in-Write c = by_word _ _ c.field.ensures _ _ _ c.in_ok-word_of.ensures c.in-Write.is c.bits_line-in-Write.ensures
 
 pub returns-in-Csu : goal.returns-in-Csu
-returns-in-Csu c =
-    by_word Csu c.field.ensures c.word_of-w.ensures c.in-Csu.is (plain_line_law _ _ _ _ c.plain-in-Csu.ensures (wrong refl))
+returns-in-Csu c = by_word _ _ c.field.ensures _ _ _ c.in_ok-word_of.ensures c.in-Csu.is (no_line none refl)
 
-pub returns-in-Unknown : goal.returns-in-Unknown
-returns-in-Unknown c =
-    by_word Unknown c.field.ensures c.word_of-w.ensures c.in-Unknown.is (plain_line_law _ _ _ _ c.plain-in-Unknown.ensures (wrong refl))
+pub returns-in_err-number_line-in-Read : goal.returns-in_err-number_line-in-Read
+returns-in_err-number_line-in-Read c =
+    let line = c.in_err-number_line-in-Read.ensures in
+    rw c.from_residual-in_err-number_line-in-Read.ensures
+    (by_word _ _ c.field.ensures _ _ _ c.in_ok-word_of.ensures c.in-Read.is (no_line _ (ap (option_map (λ s. target (read s))) line.value ∙ number_law (λ s. target (read s)) _)))
+
+pub returns-in_ok-number_line-in-Read : goal.returns-in_ok-number_line-in-Read
+returns-in_ok-number_line-in-Read c =
+    let line = c.in_ok-number_line-in-Read.ensures in
+    by_word _ _ c.field.ensures _ _ _ c.in_ok-word_of.ensures c.in-Read.is
+    (plain_line _ _ _ c.plain-in-Read.ensures (ap (option_map (λ s. target (read s))) line.value ∙ number_law (λ s. target (read s)) _) line.small)

@@ -1,11 +1,7 @@
 -- `planner_backward::union_of` meets its contract. The invariant: all sets that the choices passed lead to are joined.
 -- Assumes nothing.
-use Prim.Native.Nat.{◌≤◌, ◌-◌}
 use Rattle.planner_backward.specs.Keeping.{UnionOf}
 use Rattle.planner_backward.proofs.union_of.Given as goal
 
 abbrev pub invariant-loop-c : goal.invariant-loop-c
-invariant-loop-c l = (l.c ≤ l.n) × UnionOf l.table l.i l.lands l.c l.all
-
-abbrev pub decreases-loop-c : goal.decreases-loop-c
-decreases-loop-c l = l.n - l.c
+invariant-loop-c l = UnionOf l.table l.i l.lands l.c l.all

@@ -1,19 +1,11 @@
 -- `planner_backward::useful_sets` meets its contract.
 -- Assumes nothing.
-use mathlib.Core.Path.{refl}
 use Rattle.planner_backward.proofs.SetTests.{useful_are}
 use Rattle.planner_rows.proofs.RowLaws.{listed_small, land_small, gain_small, gain_read, gain_read_small}
 use Rattle.planner_backward.proofs.useful_sets.Goals as goal
 
-pub list_lands-n-requires : goal.list_lands-n-requires
-list_lands-n-requires c = (refl, c.requires.room.1, c.requires.landing)
-
-pub union_of-all-requires : goal.union_of-all-requires
-union_of-all-requires c = let l = c.list_lands-n.ensures in
-    record {
-      room = (c.requires.room.0, l.most, c.requires.room.2);
-      lands_small = listed_small c.requires.landing.1 l;
-    }
+pub union_of-all-requires-clause-lands_small : goal.union_of-all-requires-clause-lands_small
+union_of-all-requires-clause-lands_small c = listed_small c.requires.landing.1 c.list_lands-n.ensures
 
 pub kept-requires : goal.kept-requires
 kept-requires c = gain_read_small c.requires.landing.1 c.number.result c.number.ensures

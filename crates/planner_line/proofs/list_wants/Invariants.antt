@@ -5,6 +5,3 @@ use Rattle.planner_line.proofs.list_wants.Given as goal
 
 abbrev pub invariant-loop-i : goal.invariant-loop-i
 invariant-loop-i l = Wanting l.t l.i l.wants
-
-abbrev pub decreases-loop-i : goal.decreases-loop-i
-decreases-loop-i l = l.i

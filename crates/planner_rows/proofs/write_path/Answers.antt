@@ -1,19 +1,17 @@
 -- `planner_rows::write_path` meets its contract. The order, the base and the targets are those of the path.
 -- Assumes nothing.
-use mathlib.Core.Path.{refl}
 use native.Mathlib.Omega.{arith}
+use Rattle.planner_theory.proofs.MoveLaws.{path_short}
 use Rattle.planner_settings.proofs.SettingWalk.{planned_listed, planned_steers, planned_targets}
 use Rattle.planner_settings.proofs.PathMarks.{no_marks, marks_flags}
-use Rattle.planner_theory.proofs.MoveLaws.{path_short}
 use Rattle.planner_rows.proofs.PathRows.{order_small, row_read}
 use Rattle.planner_rows.proofs.write_path.Goals as goal
 
 pub mark_path-requires : goal.mark_path-requires
 mark_path-requires c = ((c.requires.path_read.0, c.requires.path_read.2.holds), no_marks)
 
-pub order_of-m-requires : goal.order_of-m-requires
-order_of-m-requires c = let q = c.requires.path_read.2 in
-    record { path = ((c.requires.path_read.0, q.holds), q.prepared.few, refl); steers = planned_steers _ _ _ _ q.prepared }
+pub order_of-m-requires-clause-steers : goal.order_of-m-requires-clause-steers
+order_of-m-requires-clause-steers c = planned_steers _ _ _ _ c.requires.path_read.2.prepared
 
 pub mask_of_targets-gain-requires : goal.mask_of_targets-gain-requires
 mask_of_targets-gain-requires c = let q = c.requires.path_read.2 in
@@ -23,15 +21,12 @@ pub base_of-base-requires : goal.base_of-base-requires
 base_of-base-requires c = let q = c.requires.path_read.2 in
     (q.prepared.few, (planned_listed _ _ _ _ q.prepared).within)
 
-pub overflow_cast-len : goal.overflow_cast-len
-overflow_cast-len c = let q = c.requires.path_read.2 in
+pub overflow_cast-size : goal.overflow_cast-size
+overflow_cast-size c = let q = c.requires.path_read.2 in
     omega (arith, path_short _ q.prepared.accepted _ _ q.tells, q.long)
 
-pub write_row-requires : goal.write_row-requires
-write_row-requires c = let o = c.order_of-m.ensures in
-    record { rows_len = (c.requires.rows_len.0, c.requires.rows_len.1, o.most); by_index = order_small _ _ _ _ _ o c.requires.path_read.2.prepared }
+pub write_row-requires-clause-by_index : goal.write_row-requires-clause-by_index
+write_row-requires-clause-by_index c = order_small _ _ c.args.size _ _ c.order_of-m.ensures c.requires.path_read.2.prepared
 
 pub returns : goal.returns
-returns c =
-    row_read _ _ _ _ _ c.order_of-m.ensures _ c.mark_path.ensures _ _ _ _ _ c.power_of_2.ensures.0 c.mask_of_targets-gain.ensures
-    c.base_of-base.ensures _ _ c.write_row.ensures _
+returns c = row_read _ _ _ _ _ c.order_of-m.ensures _ c.mark_path.ensures _ _ _ _ c.pow.ensures c.mask_of_targets-gain.ensures c.base_of-base.ensures _ _ c.write_row.ensures _

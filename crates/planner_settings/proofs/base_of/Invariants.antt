@@ -4,7 +4,4 @@ use Rattle.planner_settings.proofs.Basing.{Based}
 use Rattle.planner_settings.proofs.base_of.Given as goal
 
 abbrev pub invariant-loop-j : goal.invariant-loop-j
-invariant-loop-j l = Based l.marks l.segments l.k l.x l.j l.base
-
-abbrev pub decreases-loop-j : goal.decreases-loop-j
-decreases-loop-j l = l.j
+invariant-loop-j l = Based l.marks l.listed l.k l.x l.j l.base

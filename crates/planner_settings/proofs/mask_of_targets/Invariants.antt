@@ -5,6 +5,3 @@ use Rattle.planner_settings.proofs.mask_of_targets.Given as goal
 
 abbrev pub invariant-loop-i : goal.invariant-loop-i
 invariant-loop-i l = Masked l.marks l.t l.i l.mask
-
-abbrev pub decreases-loop-i : goal.decreases-loop-i
-decreases-loop-i l = l.i

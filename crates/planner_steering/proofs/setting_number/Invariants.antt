@@ -5,7 +5,4 @@ use Rattle.network_path.specs.Layout.{look_in}
 use Rattle.planner_steering.proofs.setting_number.Given as goal
 
 abbrev pub invariant-loop-j : goal.invariant-loop-j
-invariant-loop-j l = Numbered l.problem.segments l.problem.places l.problem.width (look_in l.bits l.known) l.j l.n
-
-abbrev pub decreases-loop-j : goal.decreases-loop-j
-decreases-loop-j l = l.j
+invariant-loop-j l = Numbered l.problem.steering l.problem.width (look_in l.bits l.known) l.j l.n

@@ -4,11 +4,8 @@ use native.Mathlib.Omega.{arith}
 use Rattle.planner_text.proofs.Writings.{land_listed, land_in}
 use Rattle.planner_text.proofs.land_of.Goals as goal
 
-pub offset_bounds-lands-c : goal.offset_bounds-lands-c
-offset_bounds-lands-c c = let p = c.requires in omega (arith, land_listed p.chosen c.list_lands.ensures p.landing.1)
-
 pub bounds-lands-c : goal.bounds-lands-c
 bounds-lands-c c = let p = c.requires in omega (arith, land_listed p.chosen c.list_lands.ensures p.landing.1)
 
 pub returns : goal.returns
-returns c = let p = c.requires in land_in p.chosen c.list_lands.ensures p.landing.1 c.wide.ensures
+returns c = let p = c.requires in land_in p.chosen c.list_lands.ensures p.landing.1 c.from.ensures

@@ -5,7 +5,7 @@ use Rattle.planner_text.proofs.Given.{given_short, given_written}
 use Rattle.planner_text.proofs.write_plan.Goals as goal
 
 pub returns-then-plan-needed : goal.returns-then-plan-needed
-returns-then-plan-needed c = λ net cs o. given_short _ _ _ (c.text_length-needed.ensures.counts net cs o) c.if-plan-needed.true
+returns-then-plan-needed c = λ net cs o. rw c.at.ensures (given_short _ _ _ (c.text_length-needed.ensures.counts net cs o) c.if-plan-needed.true)
 
 pub write_text-requires : goal.write_text-requires
 write_text-requires c =

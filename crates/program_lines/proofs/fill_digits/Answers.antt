@@ -9,20 +9,8 @@ use Rattle.program_lines.proofs.fill_digits.Goals as goal
 pub loop-left-init : goal.loop-left-init
 loop-left-init c = fill_start _ _ c.requires (search rules)
 
-pub overflow_sub-i : goal.overflow_sub-i
-overflow_sub-i c = omega (arith, c.loop-left.invariant.least)
-
-pub bounds-digits-i : goal.bounds-digits-i
-bounds-digits-i c = omega (arith, c.loop-left.invariant.least, c.loop-left.invariant.most)
-
 pub loop-left-preserved : goal.loop-left-preserved
 loop-left-preserved c = fill_next _ _ _ _ c.loop-left.invariant _ c.loop-left-test.true c.digit.ensures
 
-pub overflow_sub-i-2 : goal.overflow_sub-i-2
-overflow_sub-i-2 c = omega (arith, c.loop-left.invariant.least)
-
-pub bounds-digits-i-2 : goal.bounds-digits-i-2
-bounds-digits-i-2 c = omega (arith, c.loop-left.invariant.least, c.loop-left.invariant.most)
-
 pub returns : goal.returns
-returns c = (omega (arith, c.loop-left.invariant.most), simp length-set c.loop-left.invariant.size, fill_last _ _ _ _ c.loop-left.invariant _ (omega arith) c.digit-2.ensures)
+returns c = (omega arith, simp length-set c.loop-left.invariant.size, fill_last _ _ _ _ c.loop-left.invariant _ (omega arith) c.digit-2.ensures)

@@ -1,24 +1,23 @@
--- `program_lines::put_fields` meets its contract. The loop's invariant: the first i fields are written.
+-- `program_lines::put_fields` meets its contract. The loop's invariant: the fields before the place are written.
 -- Assumes nothing.
-use mathlib.Core.Path.{refl}
-use native.Mathlib.Omega.{arith}
-use borrow.Author.Rules.{rules}
+use Rattle.std.proofs.Common.{refl, arith}
 use Rattle.program_lines.specs.Puts.{tabbed}
 use Rattle.program_lines.proofs.Parts.{puts_none, field_next, fields_done}
 use Rattle.program_lines.proofs.put_fields.Goals as goal
 
-pub loop-i-init : goal.loop-i-init
+pub loop-n-init : goal.loop-n-init
 unfolding tabbed
-loop-i-init c = (search rules, refl, search rules, puts_none _ _)
+loop-n-init c = record { long = refl; upper_bound = omega arith; puts = puts_none _ _ }
 
-pub put_field-next-requires : goal.put_field-next-requires
-put_field-next-requires c = let v = c.loop-i.invariant in omega (arith, v.1, v.2)
-
-pub loop-i-preserved : goal.loop-i-preserved
-loop-i-preserved c = let v = c.loop-i.invariant in
+pub loop-n-preserved : goal.loop-n-preserved
+loop-n-preserved c =
+    let v = c.loop-n.invariant in
     let f = c.put_field-next in
-    (omega arith, omega (arith, f.auto.out, v.1), omega (arith, v.2, f.ensures.upper_bound), field_next _ _ _ _ _ _ _ _ c.loop-i-test.true v.3 (omega (arith, v.2, c.requires)) f.ensures.puts)
+    record {
+      long = omega (arith, f.auto.out);
+      upper_bound = omega arith;
+      puts = field_next _ _ _ _ _ _ _ _ c.loop-n-test.true v.puts (omega arith) f.ensures.puts;
+    }
 
 pub returns : goal.returns
-returns c = let v = c.loop-i.invariant in
-    record { puts = fields_done _ _ _ _ _ _ c.loop-i-test.false v.3; upper_bound = omega (arith, v.0, v.2) }
+returns c = record { puts = fields_done _ _ _ _ _ _ c.loop-n-test.false c.loop-n.invariant.puts; upper_bound = omega arith }

@@ -4,13 +4,10 @@ use native.Mathlib.Omega.{arith}
 use Rattle.program_lines.proofs.Parts.{puts_line}
 use Rattle.program_lines.proofs.put_line.Goals as goal
 
-pub returns : goal.returns
-returns c = let a = c.put-next in
-    let b = c.put_fields-end in
-    let d = c.put in
-    let h = c.requires in
-    record {
-      puts = puts_line _ _ record { behind = a.ensures.value; holds = a.ensures.buf_after } b.ensures.puts record { behind = d.ensures.value; holds = d.ensures.buf_after }
-          (omega (arith, a.ensures.value, h)) (omega (arith, a.ensures.value, b.ensures.upper_bound, a.auto.buf, h));
-      upper_bound = omega (arith, a.ensures.value, b.ensures.upper_bound, d.ensures.value);
-    }
+pub returns-clause-puts : goal.returns-clause-puts
+returns-clause-puts c =
+    let word = c.put-next.ensures in
+    let fields = c.put_fields-end.ensures in
+    let end = c.put.ensures in
+    puts_line _ _ record { behind = word.value; holds = word.buf_after } fields.puts record { behind = end.value; holds = end.buf_after }
+    (omega arith) (omega (arith, c.put-next.auto.buf))

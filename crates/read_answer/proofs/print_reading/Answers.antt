@@ -4,14 +4,14 @@ use Rattle.read_answer.proofs.ReadingShown.{read_accepted, read_refused}
 use Rattle.program_text.proofs.Front.{at_front, printed_to}
 use Rattle.read_answer.proofs.print_reading.Goals as goal
 
-pub returns-in-Accepted : goal.returns-in-Accepted
-returns-in-Accepted c =
-    let shown = read_accepted _ _ c.read_network-reading.ensures c.in-Accepted.is in
+pub returns-in-Ok : goal.returns-in-Ok
+returns-in-Ok c =
+    let shown = read_accepted _ _ c.in-Ok.ensures in
     let p = printed_to _ _ (at_front _ _ shown c.put_counts.ensures) in
     record { printed_to = p.0; prefix_len = p.1 }
 
-pub returns-in-Refused : goal.returns-in-Refused
-returns-in-Refused c =
-    let shown = read_refused _ _ c.read_network-reading.ensures _ _ c.in-Refused.is in
+pub returns-in-Err : goal.returns-in-Err
+returns-in-Err c =
+    let shown = read_refused _ _ c.in-Err.ensures in
     let p = printed_to _ _ (at_front _ _ shown c.put_refusal.ensures) in
     record { printed_to = p.0; prefix_len = p.1 }

@@ -1,15 +1,9 @@
--- `text::all_bits` meets its contract. The loop's invariant: all bytes are bits just if `all` says so of the first i and those from i on are.
+-- `text::all_bits` meets its contract. The loop's invariant: `all` says whether all bytes before the place are bits.
 -- Assumes nothing.
-use mathlib.Core.Path.{◌≡◌}
-use mathlib.Core.Bool.{◌&&◌}
-use Prim.Native.Nat.{◌-◌, ◌≤◌}
-use lib.ListN.{length, drop}
-use Rattle.text.specs.Bits.{is_bit, all_bits}
-use Rattle.text.proofs.Bits.{every}
+use Rattle.std.proofs.Common.{◌≡◌, take}
+use Rattle.std.specs.List.{list_all}
+use Rattle.text.specs.Bits.{is_bit}
 use Rattle.text.proofs.all_bits.Given as goal
 
-abbrev pub invariant-loop-i : goal.invariant-loop-i
-invariant-loop-i l = (l.i ≤ length l.s) × ((l.all && every (is_bit l.unknown) (drop l.i l.s)) ≡ all_bits l.unknown l.s)
-
-abbrev pub decreases-loop-i : goal.decreases-loop-i
-decreases-loop-i l = length l.s - l.i
+abbrev pub invariant-loop-b : goal.invariant-loop-b
+invariant-loop-b l = l.all ≡ list_all (is_bit l.unknown) (take l.b-index l.s)

@@ -1,13 +1,13 @@
--- `text_runs::blocks_end` meets its contract. The loop's invariant: the run from i on ends where that from `at` on ends.
+-- `text_runs::blocks_end` meets its contract. The loop's invariant: i is behind `at`, and the run from i on ends where that from `at` on ends.
 -- Assumes nothing.
-use mathlib.Core.Path.{◌≡◌}
-use Prim.Native.Nat.{◌+◌, ◌-◌, ◌≤◌}
-use lib.ListN.{length, drop}
-use Rattle.text_runs.specs.Runs.{in_run, run_length}
+use Rattle.std.proofs.Common.{◌≡◌, ◌+◌, ◌-◌, ◌≤◌, length, drop}
+use Rattle.text_runs.specs.Runs.{run_length}
 use Rattle.text_runs.proofs.blocks_end.Given as goal
 
 abbrev pub invariant-loop-i : goal.invariant-loop-i
-invariant-loop-i l = (l.i ≤ length l.s) × (l.i + run_length (in_run l.last) (drop l.i l.s) ≡ l.at + run_length (in_run l.last) (drop l.at l.s))
+invariant-loop-i g l =
+    let passes = g.T.Test.passes l.test in
+    record { behind : l.at ≤ l.i; within : l.i ≤ length l.s; same_end : l.i + run_length passes (drop l.i l.s) ≡ l.at + run_length passes (drop l.at l.s) }
 
 abbrev pub decreases-loop-i : goal.decreases-loop-i
-decreases-loop-i l = length l.s - l.i
+decreases-loop-i g l = length l.s - l.i

@@ -8,7 +8,7 @@ use Prim.Native.Nat.{◌+◌, ◌-◌, ◌≤◌}
 use Rattle.network_reader.proofs.reader.read_lines.Given as goal
 
 abbrev pub invariant-loop-at : goal.invariant-loop-at
-invariant-loop-at l = (length l.text ≤ 16384) × (l.at ≤ length l.text) × (l.n ≤ l.at + 1) × Standing l.text (arrays l.nodes l.bits l.known l.steering l.held) l.summary l.at l.n
+invariant-loop-at l = (l.at ≤ length l.text) × (l.n ≤ l.at + 1) × Standing l.text (arrays l.nodes l.bits l.known l.steering l.held) l.summary l.at l.n
 
 abbrev pub decreases-loop-at : goal.decreases-loop-at
 decreases-loop-at l = length l.text - l.at

@@ -1,20 +1,23 @@
 -- `network_reader::start::fill_start` meets its contract.
 -- Assumes nothing.
-use borrow.Author.Rules.{rules}
+use native.Mathlib.Omega.{arith}
 use mathlib.Core.Path.{◌∙◌}
 use Rattle.network_reader.proofs.Starting.{filling_none, filling_more, filling_all}
 use Rattle.network_reader.proofs.start.fill_start.Goals as goal
 
 pub loop-s-init : goal.loop-s-init
-loop-s-init c = (search rules, search rules, search rules, search rules, search rules, c.requires.1, filling_none _)
+loop-s-init c = (omega arith, filling_none _)
 
 pub fill_one-requires : goal.fill_one-requires
-fill_one-requires c = let l = c.loop-s in
-    (search rules, l.invariant.5 l.s (search rules) (search rules), l.invariant.6.bits_size ∙ l.invariant.3, l.invariant.6.known_size ∙ l.invariant.4)
+fill_one-requires c = let p = c.loop-s.invariant.1 in
+    (omega arith, c.requires.1 c.loop-s.s (omega arith) (omega arith), p.bits_size ∙ c.requires.2, p.known_size ∙ c.requires.3)
 
 pub loop-s-preserved : goal.loop-s-preserved
-loop-s-preserved c = let i = c.loop-s.invariant in
-    (search rules, search rules, search rules, search rules, search rules, i.5, filling_more i.6 i.0 c.fill_one.ensures)
+loop-s-preserved c = (omega arith, filling_more c.loop-s.invariant.1 (omega arith) c.fill_one.ensures)
 
 pub returns : goal.returns
-returns c = filling_all c.loop-s.invariant.6 _ (search rules)
+returns c = filling_all c.loop-s.invariant.1 _ (omega arith)
+
+-- behind the last segment
+pub returns-2 : goal.returns-2
+returns-2 c = filling_all (filling_more c.loop-s.invariant.1 (omega arith) c.fill_one.ensures) _ (omega arith)

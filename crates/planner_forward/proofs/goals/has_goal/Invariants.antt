@@ -10,8 +10,11 @@ use Rattle.planner_forward.specs.Goals.{goal_with}
 use Rattle.planner_forward.proofs.goals.has_goal.Given as goal
 
 abbrev pub invariant-loop-x : goal.invariant-loop-x
-invariant-loop-x l = (l.x ≤ l.end) × RowsRight l.nodes l.steering l.problem l.rows
-    × Each l.nodes l.steering l.problem (λ net. (y : ℕ) → y < l.x → goal_with net l.full y (get_or l.table (l.i * 729 + y) 0) ≡ false)
+invariant-loop-x l = record {
+  most : l.x ≤ l.end;
+  rows_right : RowsRight l.nodes l.steering l.problem l.rows;
+  no_goal : Each l.nodes l.steering l.problem (λ net. (y : ℕ) → y < l.x → goal_with net l.full y (get_or l.table (l.i * 729 + y) 0) ≡ false);
+}
 
 abbrev pub decreases-loop-x : goal.decreases-loop-x
 decreases-loop-x l = l.end - l.x

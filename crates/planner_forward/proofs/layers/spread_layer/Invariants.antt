@@ -10,9 +10,12 @@ use Rattle.planner_forward.proofs.Leaving.{LeftBelow}
 use Rattle.planner_forward.proofs.layers.spread_layer.Given as goal
 
 abbrev pub invariant-loop-x : goal.invariant-loop-x
-invariant-loop-x l = (l.x ≤ l.end) × RowsRight l.nodes l.steering l.problem l.rows
-    × Each l.nodes l.steering l.problem (λ net. Spread (LeftBelow net l.initial.table (l.i - 1) l.x) l.i l.initial.table l.initial.seen l.table l.seen)
-    × Each l.nodes l.steering l.problem (λ net. SetsIn (LeftBelow net l.initial.table (l.i - 1) l.x) l.all)
+invariant-loop-x l = record {
+  most : l.x ≤ l.end;
+  rows_right : RowsRight l.nodes l.steering l.problem l.rows;
+  spread : Each l.nodes l.steering l.problem (λ net. Spread (LeftBelow net l.initial.table (l.i - 1) l.x) l.i l.initial.table l.initial.seen l.table l.seen);
+  sets_in : Each l.nodes l.steering l.problem (λ net. SetsIn (LeftBelow net l.initial.table (l.i - 1) l.x) l.all);
+}
 
 abbrev pub decreases-loop-x : goal.decreases-loop-x
 decreases-loop-x l = l.end - l.x

@@ -1,6 +1,6 @@
 -- `planner_search::trace::first_choice` meets its contract. The invariant: no choice passed leads to a state of the slot.
 -- Assumes nothing.
-use Prim.Native.Nat.{ℕ, ◌+◌, ◌*◌, ◌≤◌, ◌<◌, ◌-◌}
+use Prim.Native.Nat.{ℕ, ◌+◌, ◌*◌, ◌<◌}
 use mathlib.Core.Path.{◌≡◌}
 use mathlib.Core.Bool.{true}
 use lib.ListN.{get_or}
@@ -8,7 +8,4 @@ use Rattle.network_words.specs.Words.{word_bit}
 use Rattle.planner_search.proofs.trace.first_choice.Given as goal
 
 abbrev pub invariant-loop-c : goal.invariant-loop-c
-invariant-loop-c l = (l.c ≤ l.n) × ((j : ℕ) → j < l.c → word_bit (get_or l.table (l.i * 729 + get_or l.lands j 0) 0) l.got ≡ true → ⊥)
-
-abbrev pub decreases-loop-c : goal.decreases-loop-c
-decreases-loop-c l = l.n - l.c
+invariant-loop-c l = (j : ℕ) → j < l.c → word_bit (get_or l.table (l.i * 729 + get_or l.lands j 0) 0) l.got ≡ true → ⊥

@@ -7,7 +7,7 @@ use Rattle.recoverer.proofs.PartLines.{Doing}
 use Rattle.recoverer.proofs.lines.recover_lines.Given as goal
 
 abbrev pub invariant-loop-at : goal.invariant-loop-at
-invariant-loop-at l = Doing l.text (progress_for l.initial.p) l.initial.plan (progress_for l.p) l.plan l.at
+invariant-loop-at l = Doing l.text (progress_for l.initial.progress) l.initial.plan (progress_for l.progress) l.plan l.at
 
 abbrev pub decreases-loop-at : goal.decreases-loop-at
 decreases-loop-at l = length l.text - l.at
