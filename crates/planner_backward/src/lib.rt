@@ -139,7 +139,7 @@ pub fn keep_all<'a>(
     requires rows_right { RowsRight nodes.now steering.now problem rows.old }
     requires room { (search_size ≤ length table.old) × (full < 16) × (d ≤ 16) }
     ensures rows_right { RowsRight nodes.now steering.now problem rows.new }
-    ensures useful { Each nodes.now steering.now problem (λ net. SearchStarts net start full → MetAt net (start * 16) table.old d → Useful net (start * 16) d table.old table.new) }
+    ensures useful { Each nodes.now steering.now problem (λ net. SearchStarts net start full → (0 < d → MetAt net (start * 16) table.old d) → Useful net (start * 16) d table.old table.new) }
 {
     for i in (0..d).rev() {
         keep_slot(nodes, steering, problem, rows, full, table, d, i);

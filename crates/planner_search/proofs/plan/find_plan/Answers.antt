@@ -33,7 +33,7 @@ returns-clause-cleared c =
     c.clear-2.ensures ∙ cleared_again c.args.table.now c.clear.new.table _ c.requires.room.0 c.clear.ensures (c.match-found.auto.table ∙ d.ensures.rest_kept.0) (λ n le.
     elim c.match-found.branch [
       | in-Some w ↦
-          let kept = w.keep_all.ensures.useful q.0 q.1 (c.requires.starts q.0 q.1) (w.in-Some.ensures.met q.0 q.1 (c.requires.starts q.0 q.1)) in
+          let kept = w.keep_all.ensures.useful q.0 q.1 (c.requires.starts q.0 q.1) (λ z. w.in-Some.ensures.met q.0 q.1 (c.requires.starts q.0 q.1)) in
           rw w.table-is (kept.beyond n le ∙ d.ensures.rest_kept.1 n le)
       | in_default w ↦ rw w.table-is (d.ensures.rest_kept.1 n le)
     ])
