@@ -19,6 +19,6 @@ pub fn print_carry(network: &[u8], plan: &[u8], out: &mut [u8; ROOM]) -> usize
 {
     match carry(network, plan, out) {
         Ok(n) => n,
-        Err(refusal) => put_refusal(out, refusal),
+        Err(refusal) => put_refusal(out, refusal.kind.number(), refusal.place),
     }
 }

@@ -54,6 +54,6 @@ pub fn print_clocks(plan: &[u8], out: &mut [u8; ROOM]) -> usize
 {
     match check_form(plan) {
         Ok(_) => put_operations(plan, out),
-        Err(refusal) => put_refusal(out, refusal),
+        Err(refusal) => put_refusal(out, refusal.kind.number(), refusal.place),
     }
 }

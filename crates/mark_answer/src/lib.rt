@@ -54,6 +54,6 @@ pub fn print_mark(network: &[u8], plan: &[u8], out: &mut [u8; ROOM]) -> usize
             let next = put_pass(out, pass.operations, pass.clocks);
             put_gots(out, next, &pass.gots.rows[..pass.gots.count])
         }
-        Err(refusal) => put_refusal(out, refusal),
+        Err(refusal) => put_refusal(out, refusal.kind.number(), refusal.place),
     }
 }

@@ -20,6 +20,6 @@ pub fn print_plan(network: &[u8], out: &mut [u8; ROOM]) -> usize
     let mut search = [0u16; SEARCH_SIZE];
     match make_plan(network, &mut search, out) {
         Ok(n) => n,
-        Err(refusal) => put_refusal(out, refusal),
+        Err(refusal) => put_refusal(out, refusal.kind.number(), refusal.place),
     }
 }

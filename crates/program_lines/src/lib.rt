@@ -2,13 +2,11 @@
 #![tactic(auto)]
 
 ghost use Rattle.std.specs.Prelude.{◌≡◌, [], ◌∷◌, ◌++◌, map, ◌+◌, ◌*◌, ◌≤◌, ◌<◌, length, drop};
-ghost use Rattle.model.specs.Answers.{number_of};
 ghost use Rattle.model.specs.Text.{tab};
 ghost use Rattle.model.specs.Printed.{number, fields_of, line, exit_status};
 ghost use Rattle.plan_text.specs.Writing.{write_at};
 ghost use Rattle.program_lines.specs.Puts.{Puts, tabbed};
 
-use model::refusal::Refusal;
 use plan_text::put;
 
 // The digits of the largest usize, which is below 10 ^ 20.
@@ -94,11 +92,11 @@ pub fn put_line(out: &mut [u8], at: usize, word: &[u8], numbers: &[usize]) -> us
 }
 
 // The line of a refusal by its number and place.
-pub fn put_refusal(out: &mut [u8], refusal: Refusal) -> usize
+pub fn put_refusal(out: &mut [u8], n: usize, place: usize) -> usize
     requires { 47 ≤ length out.old }
-    ensures { Puts 0 (line "fail" (number (number_of refusal.kind) ∷ number refusal.place ∷ [])) out.old result out.new }
+    ensures { Puts 0 (line "fail" (number n ∷ number place ∷ [])) out.old result out.new }
 {
-    let numbers = [refusal.kind.number(), refusal.place];
+    let numbers = [n, place];
     put_line(out, 0, b"fail", &numbers)
 }
 

@@ -35,6 +35,6 @@ pub fn print_reading(text: &[u8], out: &mut [u8; ROOM]) -> usize
             network.steering_count,
             network.start_length,
         ),
-        Err(refusal) => put_refusal(out, refusal),
+        Err(refusal) => put_refusal(out, refusal.kind.number(), refusal.place),
     }
 }
