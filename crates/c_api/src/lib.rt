@@ -31,7 +31,7 @@ pub extern "C" fn penthluk_read(text: &[u8], answer: &mut [usize; 5])
             network.steering_count,
             network.start_length,
         ],
-        Err(refusal) => refusal_numbers(refusal),
+        Err(refusal) => refusal_numbers::<5>(refusal),
     };
 }
 
@@ -63,7 +63,7 @@ pub extern "C" fn penthluk_mark(network: &[u8], plan: &[u8], answer: &mut [usize
                 rows[3].place,
             ]
         }
-        Err(refusal) => refusal_numbers(refusal),
+        Err(refusal) => refusal_numbers::<16>(refusal),
     };
 }
 
