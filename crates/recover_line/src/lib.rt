@@ -1,126 +1,109 @@
 // Clocks back into a plan: the call for a line and the one for the end of the text, which a caller makes in turn.
 #![tactic(auto)]
 
-ghost use Rattle.std.specs.Prelude.{◌≡◌, cond, ◌&&◌, ◌≤◌, leb};
+ghost use Rattle.std.specs.Prelude.{◌≡◌, cond, option_map, ◌≤◌};
 ghost use Rattle.model.specs.Answers.{answer, count_of};
 ghost use Rattle.recover_model.specs.RecoverCalls.{at_first, under_way, can_go_on, bytes_written, step_line, recover_line, recover_end};
-ghost use Rattle.clock_writer.specs.Machine.{state_code};
 ghost use Rattle.clock_follower.specs.Counts.{progress_for};
-ghost use Rattle.recover_line.specs.Answers.{progress_after, PutsLine, CanPut};
+ghost use Rattle.recover_line.specs.Answers.{progress_after};
+ghost use Rattle.recover_line.specs.Progress.{progress_from, if_state};
 
-use clock_follower::{Pen, Progress, follow, write};
-use clock_line::{count_clocks, tdi_of, tms_of};
+pub mod step;
+
 use clock_writer::State;
-use model::limits::{MAX_OPERATIONS, MAX_PLAN_BYTES};
 use model::refusal::{Kind, Refusal};
+
+// What a caller keeps between two calls, as four numbers: the lines so far, the controller's state by its number, the entries to
+// Capture-DR, and the plan's bytes. They may be any: what no call leaves is refused.
+#[derive(Clone, Copy)]
+pub struct Progress {
+    pub lines: usize,
+    pub state: u8,
+    pub entries: usize,
+    pub bytes: usize,
+}
+
+// With the controller's state, as the steps take it; none where no state has this number.
+pub fn known(p: Progress) -> Option<clock_follower::Progress>
+    ensures { option_map progress_for result ≡ if_state (progress_from p) }
+{
+    let state = State::from_number(usize::from(p.state))?;
+    Some(clock_follower::Progress {
+        lines: p.lines,
+        state,
+        entries: p.entries,
+        bytes: p.bytes,
+    })
+}
+
+// As four numbers.
+pub fn numbers_of(q: clock_follower::Progress) -> Progress
+    ensures { progress_from result ≡ progress_for q }
+{
+    Progress {
+        lines: q.lines,
+        state: q.state as u8,
+        entries: q.entries,
+        bytes: q.bytes,
+    }
+}
 
 // Before the first line.
 pub fn at_first() -> Progress
-    ensures { progress_for result ≡ at_first }
+    ensures { progress_from result ≡ at_first }
 {
     Progress {
         lines: 0,
-        state: State::RunTestIdle,
+        state: State::RunTestIdle as u8,
         entries: 0,
         bytes: 0,
     }
 }
 
-// Whether a passage is under way, from the entry to Capture-DR up to the clock in Update-DR.
-fn under_way(state: State) -> bool
-    ensures { result ≡ under_way (state_code state) }
-{
-    matches!(
-        state,
-        State::CaptureDR
-            | State::ShiftDR
-            | State::Exit1DR
-            | State::PauseDR
-            | State::Exit2DR
-            | State::UpdateDR
-    )
-}
-
-// Whether a line can leave the controller in a state.
-fn can_be_left(state: State) -> bool
-    ensures { result ≡ (leb 1 (state_code state) && leb (state_code state) 8) }
-{
-    matches!(state, State::RunTestIdle | State::SelectDR) || under_way(state)
-}
-
 // Whether a line can follow: what no call leaves is refused.
 pub fn can_go_on(p: Progress) -> bool
-    ensures { result ≡ can_go_on (progress_for p) }
+    ensures { result ≡ can_go_on (progress_from p) }
 {
-    p.lines < usize::MAX
-        && can_be_left(p.state)
-        && p.entries <= MAX_OPERATIONS
-        && p.bytes <= MAX_PLAN_BYTES
-        && !(under_way(p.state) && p.bytes == 0)
+    match known(p) {
+        Some(q) => step::can_go_on(q),
+        None => false,
+    }
 }
 
 // The plan's bytes that stand in the buffer.
 pub fn bytes_written(p: Progress) -> usize
-    requires { cond (under_way (state_code p.state)) 1 0 ≤ p.bytes }
-    ensures { result ≡ bytes_written (progress_for p) }
+    requires { cond (under_way p.state) 1 0 ≤ p.bytes }
+    ensures { result ≡ bytes_written (progress_from p) }
 {
-    p.bytes - usize::from(under_way(p.state))
+    match known(p) {
+        Some(q) => step::bytes_written(q),
+        None => p.bytes,
+    }
 }
 
 // Where a line leads; nothing is written.
 pub fn check_line(p: Progress, line: &[u8]) -> Result<Progress, Refusal>
-    ensures { answer progress_for result ≡ progress_after (step_line (progress_for p) line.now) }
+    ensures { answer progress_from result ≡ progress_after (step_line (progress_from p) line.now) }
 {
-    if !can_go_on(p) {
-        return Err(Kind::ClockLine.at(p.lines));
-    }
-    let place = p.lines + 1;
-    let refusal = Kind::ClockLine.at(place);
-    let clocks = count_clocks(line).ok_or(refusal)?;
-    let q = follow(p, tms_of(line, clocks)).ok_or(refusal)?;
-    Ok(Progress { lines: place, ..q })
+    let from = known(p).ok_or(Kind::ClockLine.at(p.lines))?;
+    let q = step::check_line(from, line)?;
+    Ok(numbers_of(q))
 }
 
-// What a line of good form adds to the plan's text.
-fn put_line(pen: Pen, line: &[u8], plan: &mut [u8]) -> Pen
-    requires { CanPut (state_code pen.state) pen.at line.now plan.old }
-    ensures { PutsLine (state_code pen.state) pen.at line.now plan.old (state_code result.state) result.at plan.new }
-{
-    let n = (line.len() - 5) / 2;
-    write(pen, tms_of(line, n), tdi_of(line, n), plan)
-}
-
-// The call for a line, without its byte 10. It is followed before anything is written, so that a refusal leaves the plan as it was;
-// a line that adds nothing to the plan is not looked at again.
+// The call for a line, without its byte 10. A refusal leaves the plan as it was.
 pub fn recover_line(p: Progress, line: &[u8], plan: &mut [u8]) -> Result<Progress, Refusal>
-    ensures result_value { answer progress_for result ≡ (recover_line (progress_for p) line.now plan.old).result }
-    ensures plan_after { plan.new ≡ (recover_line (progress_for p) line.now plan.old).plan }
+    ensures result_value { answer progress_from result ≡ (recover_line (progress_from p) line.now plan.old).result }
+    ensures plan_after { plan.new ≡ (recover_line (progress_from p) line.now plan.old).plan }
 {
-    let q = check_line(p, line)?;
-    if plan.len() < q.bytes {
-        return Err(Kind::Buffer.at(q.bytes));
-    }
-    let at = bytes_written(p);
-    if at < bytes_written(q) {
-        let pen = Pen { state: p.state, at };
-        put_line(pen, line, plan);
-    }
-    Ok(q)
+    let from = known(p).ok_or(Kind::ClockLine.at(p.lines))?;
+    let q = step::recover_line(from, line, plan)?;
+    Ok(numbers_of(q))
 }
 
 // The call for the end of the text, with the bytes behind its last byte 10.
-#[tactic(auto, unfolding(recover_model::specs::RecoverCalls::recover_end))]
 pub fn recover_end(p: Progress, rest: &[u8]) -> Result<usize, Refusal>
-    ensures { count_of result ≡ recover_end (progress_for p) rest.now }
+    ensures { count_of result ≡ recover_end (progress_from p) rest.now }
 {
-    if !can_go_on(p) {
-        return Err(Kind::ClockLine.at(p.lines));
-    }
-    if !rest.is_empty() {
-        return Err(Kind::ClockLine.at(p.lines + 1));
-    }
-    if p.state != State::RunTestIdle {
-        return Err(Kind::ClockLine.at(p.lines));
-    }
-    Ok(p.bytes)
+    let from = known(p).ok_or(Kind::ClockLine.at(p.lines))?;
+    step::recover_end(from, rest)
 }

@@ -1,8 +1,8 @@
--- `recover_line::put_line` meets its contract.
+-- `recover_line::step::put_line` meets its contract.
 -- Assumes nothing.
 use native.Mathlib.Omega.{arith}
 use Rattle.recover_line.proofs.PutLine.{its_clocks, put_ready, put_done}
-use Rattle.recover_line.proofs.put_line.Goals as goal
+use Rattle.recover_line.proofs.step.put_line.Goals as goal
 
 pub overflow_sub-n : goal.overflow_sub-n
 overflow_sub-n c = omega (arith, (its_clocks _ _ _ _ c.requires).length_is)
