@@ -16,19 +16,24 @@ use Rattle.model.specs.declared.refusal.Refusal.{Refusal}
 use Rattle.model.proofs.Lists.{not_ok}
 use Rattle.recover_model.specs.RecoverCalls.{Progress, behind, unless_long, recover_part}
 use Rattle.recover_model.proofs.OnePart.{part_short}
-use Rattle.clock_follower.specs.declared.Progress.{Progress as Kept}
-use Rattle.clock_follower.specs.Counts.{progress_for}
+use Rattle.recover_line.specs.Progress.{progress_from}
+use Rattle.recover_line.specs.declared.Progress.{Progress as Numbers}
 use Rattle.recoverer.specs.declared.lines.Lines.{Lines}
+use Rattle.recoverer.specs.declared.part.Refused.{Refused}
 use Rattle.recoverer.specs.Parts.{DidLines, answer_before, FollowedPart, DidPart}
 
 -- ---- followed
 
-pub part_refused : (text plan : Bytes) (r : Refusal) → FollowedPart (refused (number_of r.kind) r.place) text plan (Err r) plan
+-- a refusal of the lines, by its number and place
+abbrev pub by_number : Refusal → Refused
+by_number r = record { number = number_of r.kind; place = r.place }
+
+pub part_refused : (text plan : Bytes) (r : Refused) → FollowedPart (refused r.number r.place) text plan (Err r) plan
 unfolding recover_part
 part_refused text plan r = record { answers = refl; left = tt; rest = tt; within = tt }
 
 module _ (p : Progress) (text plan plan' : Bytes) where
-  pub part_stopped : (r : Refusal) → DidLines p text plan (Err r) plan' → FollowedPart (ok p) text plan (Err r) plan'
+  pub part_stopped : (r : Refusal) → DidLines p text plan (Err r) plan' → FollowedPart (ok p) text plan (Err (by_number r)) plan'
   unfolding recover_part
   part_stopped r d = record { answers = rw (← d.answers); left = tt; rest = tt; within = tt }
 
@@ -37,16 +42,16 @@ module _ (p : Progress) (text plan plan' : Bytes) where
     rest_is = take_all (length text - l.at) (drop l.at text) (omega (arith, length-drop l.at text)) ∙ d.rest
 
     -- what is behind the lines decides
-    decides : (x : Result Progress) → x ≡ unless_long (take (length text - l.at) (drop l.at text)) (progress_for l.progress)
+    decides : (x : Result Progress) → x ≡ unless_long (take (length text - l.at) (drop l.at text)) (progress_from l.progress)
         → x ≡ (recover_part (answer_before (ok p) plan) text).answer.result
     unfolding recover_part
-    decides x e = rw (← d.answers) (e ∙ ap (λ (y : Bytes). unless_long y (progress_for l.progress)) rest_is)
+    decides x e = rw (← d.answers) (e ∙ ap (λ (y : Bytes). unless_long y (progress_from l.progress)) rest_is)
 
-    pub part_long : (r : Refusal) → refused (number_of r.kind) r.place ≡ unless_long (take (length text - l.at) (drop l.at text)) (progress_for l.progress)
-        → FollowedPart (ok p) text plan (Err r) plan'
+    pub part_long : (r : Refusal) → refused (number_of r.kind) r.place ≡ unless_long (take (length text - l.at) (drop l.at text)) (progress_from l.progress)
+        → FollowedPart (ok p) text plan (Err (by_number r)) plan'
     part_long r e = record { answers = decides _ e; left = tt; rest = tt; within = tt }
 
-    pub part_followed : (q : Kept) → ok (progress_for q) ≡ unless_long (take (length text - l.at) (drop l.at text)) (progress_for l.progress)
+    pub part_followed : (q : Numbers) → ok (progress_from q) ≡ unless_long (take (length text - l.at) (drop l.at text)) (progress_from l.progress)
         → FollowedPart (ok p) text plan (Ok record { progress = q; at = l.at }) plan'
     unfolding recover_part
     part_followed q e = record { answers = decides _ e; left = d.left; rest = rw (← decides _ e) d.rest; within = d.within }
@@ -54,7 +59,7 @@ module _ (p : Progress) (text plan plan' : Bytes) where
 -- ---- kept
 
 module _ (r₀ : Result Progress) (text plan plan' : Bytes) (long : length plan' ≡ length plan) where
-  pub nothing_held : (r : Refusal) → FollowedPart r₀ text plan (Err r) plan' → DidPart r₀ text plan (refused (number_of r.kind) r.place) 0 text plan'
+  pub nothing_held : (r : Refused) → FollowedPart r₀ text plan (Err r) plan' → DidPart r₀ text plan (refused r.number r.place) 0 text plan'
   unfolding recover_part
   nothing_held r f = record {
     answers = f.answers;
@@ -67,7 +72,7 @@ module _ (r₀ : Result Progress) (text plan plan' : Bytes) (long : length plan'
   }
 
   pub rest_held : (l : Lines) → FollowedPart r₀ text plan (Ok l) plan' → (text' : Bytes) → text' ≡ copy_within text l.at (length text) 0
-      → DidPart r₀ text plan (ok (progress_for l.progress)) (length text' - l.at) text' plan'
+      → DidPart r₀ text plan (ok (progress_from l.progress)) (length text' - l.at) text' plan'
   rest_held l f text' w =
       let n : ℕ = length text - l.at in
       let longer : length text' ≡ length text = ap length w ∙ length-paste text 0 (drop l.at text) n (omega arith) (omega (arith, length-drop l.at text)) in

@@ -21,7 +21,7 @@ use Rattle.recover_model.proofs.LineByLine.{line_by_line}
 use Rattle.recover_model.proofs.RecoverBuffers.{recover_buffer_written}
 use Rattle.plan_text.specs.Writing.{write_at}
 use Rattle.plan_text.proofs.Writing.{over_is}
-use Rattle.clock_follower.specs.Counts.{progress_for}
+use Rattle.recover_line.specs.Progress.{progress_from}
 use Rattle.recoverer.specs.declared.lines.Lines.{Lines}
 use Rattle.recoverer.specs.Parts.{led_to, DidLines}
 use Rattle.recoverer.specs.Whole.{StandsIn}
@@ -50,7 +50,7 @@ module _ (t own₀ : Bytes) (few : length t ≤ max_count) (room : max_plan_byte
   pub stands_refused : (r : Refusal) → DidLines first t own₀ (Err r) own → StandsIn t (refused (number_of r.kind) r.place) own
   stands_refused r d = stands (Err r) d
 
-  pub stands_end : (l : Lines) → DidLines first t own₀ (Ok l) own → (a : Result ℕ) → a ≡ recover_end (progress_for l.progress) (take (length t - l.at) (drop l.at t)) → StandsIn t a own
+  pub stands_end : (l : Lines) → DidLines first t own₀ (Ok l) own → (a : Result ℕ) → a ≡ recover_end (progress_from l.progress) (take (length t - l.at) (drop l.at t)) → StandsIn t a own
   stands_end l d a q =
       let x : take (length t - l.at) (drop l.at t) ≡ rest = take_all (length t - l.at) (drop l.at t) (omega (arith, length-drop l.at t)) ∙ d.rest in
       rw (q, x) (stands (Ok l) d)

@@ -1,15 +1,17 @@
 -- A line, the lines of a text and a text that comes in parts, in the model's terms: what the steps that follow a line once leave.
 -- Assumes nothing.
-use Rattle.std.specs.Prelude.{◌≡◌, ℕ, ◌≤◌, ◌<◌, length, take, drop, Result as Answer, IfOk, OnOk}
+use Rattle.std.specs.Prelude.{◌≡◌, ℕ, ◌≤◌, ◌<◌, length, take, drop, Result as Answer, Ok, Err, IfOk, OnOk}
 use Rattle.model.specs.Answers.{answer}
-use Rattle.model.specs.Result.{Result, ok}
+use Rattle.model.specs.Result.{Result, ok, refused}
 use Rattle.model.specs.Text.{Bytes, parts, ended, line_end}
 use Rattle.model.specs.declared.refusal.Refusal.{Refusal}
 use Rattle.recover_model.specs.RecoverCalls.{Progress, LineAnswer, recover_line, recover_lines, behind, recover_part}
 use Rattle.recover_model.specs.ClockText.{max_line_bytes}
 use Rattle.clock_follower.specs.declared.Progress.{Progress as Kept}
 use Rattle.clock_follower.specs.Counts.{progress_for}
+use Rattle.recover_line.specs.Progress.{progress_from}
 use Rattle.recoverer.specs.declared.lines.Lines.{Lines}
+use Rattle.recoverer.specs.declared.part.Refused.{Refused}
 
 -- `play_line` answered r for a line; where it did not refuse, it left the plan as plan'
 pub record PlayedLine (p : Progress) (l plan : Bytes) (r : Answer Kept Refusal) (plan' : Bytes) : Type 0 where
@@ -18,7 +20,7 @@ pub record PlayedLine (p : Progress) (l plan : Bytes) (r : Answer Kept Refusal) 
 
 -- where the lines of a text lead
 abbrev pub led_to : Answer Lines Refusal → Result Progress
-led_to r = answer (λ l. progress_for l.progress) r
+led_to r = answer (λ l. progress_from l.progress) r
 
 -- `recover_lines` answered r for the lines that end in a text; where it did not refuse, the rest starts at its place, and it left the plan as plan'
 pub record DidLines (p : Progress) (text plan : Bytes) (r : Answer Lines Refusal) (plan' : Bytes) : Type 0 where
@@ -27,12 +29,17 @@ pub record DidLines (p : Progress) (text plan : Bytes) (r : Answer Lines Refusal
   pub rest : IfOk r (λ l. drop l.at text ≡ behind (parts line_end text))
   pub within : IfOk r (λ l. l.at ≤ length text)
 
+-- a result, which f gives the meaning of, or a refusal by any number and place
+abbrev pub answer_numbered : {A B : Type 0} → (A → B) → Answer A Refused → Result B
+answer_numbered f (Ok a) = ok (f a)
+answer_numbered f (Err r) = refused r.number r.place
+
 abbrev pub answer_before : Result Progress → Bytes → LineAnswer
 answer_before r plan = record { result = r; plan = plan }
 
 -- `follow_part` went on from an answer for a text: it answered r; where it did not refuse, what is held starts at its place, and it left the plan as plan'
-pub record FollowedPart (r₀ : Result Progress) (text plan : Bytes) (r : Answer Lines Refusal) (plan' : Bytes) : Type 0 where
-  pub answers : led_to r ≡ (recover_part (answer_before r₀ plan) text).answer.result
+pub record FollowedPart (r₀ : Result Progress) (text plan : Bytes) (r : Answer Lines Refused) (plan' : Bytes) : Type 0 where
+  pub answers : answer_numbered (λ l. progress_from l.progress) r ≡ (recover_part (answer_before r₀ plan) text).answer.result
   pub left : OnOk r (plan' ≡ (recover_part (answer_before r₀ plan) text).answer.plan)
   pub rest : IfOk r (λ l. drop l.at text ≡ (recover_part (answer_before r₀ plan) text).rest)
   pub within : IfOk r (λ l. l.at ≤ length text)
