@@ -1,12 +1,12 @@
 // Answers as numbers: 0 and what there is, or a refusal's number and place; zeros behind.
 ghost use Rattle.std.specs.Prelude.{◌≡◌, [], ◌∷◌, ◌≤◌};
 ghost use Rattle.model.specs.Answers.{number_of, answer, count_of};
-ghost use Rattle.clock_follower.specs.Counts.{progress_for};
+ghost use Rattle.recover_line.specs.Progress.{progress_from};
 ghost use Rattle.c_api.specs.Numbers.{padded, count_numbers};
 ghost use Rattle.c_api.specs.Progress.{progress_numbers};
 
-use clock_follower::Progress;
 use model::refusal::Refusal;
+use recover_line::Progress;
 
 // A refusal's number and place, in so many numbers.
 pub fn refusal_numbers<const N: usize>(refusal: Refusal) -> [usize; N]
@@ -31,10 +31,10 @@ pub fn count_numbers(counted: Result<usize, Refusal>) -> [usize; 2]
 
 // 0 and the progress.
 pub fn progress_numbers(stepped: Result<Progress, Refusal>) -> [usize; 5]
-    ensures { result ≡ progress_numbers (answer progress_for stepped) }
+    ensures { result ≡ progress_numbers (answer progress_from stepped) }
 {
     match stepped {
-        Ok(p) => [0, p.lines, p.state.number(), p.entries, p.bytes],
+        Ok(p) => [0, p.lines, usize::from(p.state), p.entries, p.bytes],
         Err(refusal) => refusal_numbers(refusal),
     }
 }

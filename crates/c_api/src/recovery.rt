@@ -2,27 +2,27 @@
 // to Capture-DR and the plan's bytes; before the first line 0, 1, 0, 0.
 ghost use Rattle.std.specs.Prelude.{◌≡◌};
 ghost use Rattle.recover_model.specs.RecoverCalls.{recover_text, recover_line, recover_end};
-ghost use Rattle.clock_writer.specs.Machine.{state_code};
-ghost use Rattle.clock_follower.specs.Counts.{progress_for};
+ghost use Rattle.recover_line.specs.Progress.{progress_from};
 ghost use Rattle.c_api.specs.Numbers.{count_numbers};
 ghost use Rattle.c_api.specs.Progress.{progress_in, progress_numbers, Alike, state_in};
 
 use crate::numbers::{count_numbers, progress_numbers};
-use clock_follower::Progress;
-use clock_writer::State;
-use recover_line::{recover_end, recover_line};
+use recover_line::{Progress, recover_end, recover_line};
 use recoverer::whole::recover_text;
 
 // A state by its number; one that there is not is taken for Test-Logic-Reset, which no call leaves either.
-fn state_of(number: usize) -> State
-    ensures { state_code result ≡ state_in number }
+fn state_of(number: usize) -> u8
+    ensures { result ≡ state_in number }
 {
-    State::from_number(number).unwrap_or(State::TestLogicReset)
+    if 15 < number {
+        return 0;
+    }
+    number as u8
 }
 
 // The progress of four numbers, or one that is answered alike.
 fn progress_of(numbers: &[usize; 4]) -> Progress
-    ensures { Alike (progress_for result) (progress_in numbers.now) }
+    ensures { Alike (progress_from result) (progress_in numbers.now) }
 {
     Progress {
         lines: numbers[0],
