@@ -159,16 +159,20 @@ module _ {ns steering : List ℕ} {pb : Problem} {start : ℕ} {picked : List �
         path_held : {net : Network} → Prepared net ns steering pb → WalkHeld ns way (Ok size)
         path_held {net} p = subst (WalkHeld ns way) e (w net p).holds
 
-        pub writing_room : {net : Network} {cs : List ℕ} → WritesOf net ns steering pb start picked n old cs → HasRoom ns way m (place + 5) buf
+        pub writing_room : {net : Network} {cs : List ℕ} → WritesOf net ns steering pb start picked n old cs
+            → HasRoom ns way m (place + 5) buf × (size.bits ≡ path_length (scan_path ns (take m way)))
         writing_room {net} {cs} o =
             let q = o.counts in
             let f = (s net cs o).passed in
-            line_room ns way m place buf (path_held q.prepared).0
-            (omega (
-              arith,
-              (s net cs o).size,
-              text_room net q.prepared.accepted cs i (get_or picked i 0) (inside q f l) (choice_is q f l refl) (scan_path ns (take m way)) (path_walk q.prepared) (s net cs o) o.room,
-            ))
+            let held = path_held q.prepared in (
+              line_room ns way m place buf held.0
+                  (omega (
+                    arith,
+                    (s net cs o).size,
+                    text_room net q.prepared.accepted cs i (get_or picked i 0) (inside q f l) (choice_is q f l refl) (scan_path ns (take m way)) (path_walk q.prepared) (s net cs o) o.room,
+                  )),
+              held.1,
+            )
 
         pub writing_more : {rows : List ℕ} → RowsRight ns steering pb rows → row_number rows x 0 ≡ 1 → {c : ℕ} → c ≡ get_or picked i 0
             → {h next end : ℕ} {new : List ℕ} → h ≡ row_number rows x 1 → LandIn rows x c next → end ≡ place + (5 + path_length (scan_path ns (take m way)))

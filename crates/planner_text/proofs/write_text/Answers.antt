@@ -24,7 +24,7 @@ know_row-requires-clause-x_lt_max_settings c =
 
 pub put_line-at-requires-clause-has_room : goal.put_line-at-requires-clause-has_room
 put_line-at-requires-clause-has_room c =
-    writing_room c.loop-i.invariant.writing c.loop-i-test.true c.walk_setting-walked.ensures.each _ c.unwrap-segments.ensures c.requires.writable.2
+    (writing_room c.loop-i.invariant.writing c.loop-i-test.true c.walk_setting-walked.ensures.each _ c.unwrap-segments.ensures c.requires.writable.2).0
 
 pub land_of-x-requires : goal.land_of-x-requires
 land_of-x-requires c =
