@@ -28,7 +28,7 @@ use Rattle.network_path.proofs.StoredLaws.{found_path, found_stop}
 use Rattle.plan_text.specs.Lines.{bit_run}
 use Rattle.plan_text.proofs.Lines.{line_room, line_bits, line_next, line_more, line_none}
 use Rattle.network_draft.specs.declared.store.Summary.{Summary}
-use Rattle.marker_operations.specs.Operations.{Reached, Noted, config_at, State, path_at, OnPath, path_after, operated, OperatedAs, Operates, RanAs, HoldsStart, from_start}
+use Rattle.marker_operations.specs.Operations.{Reached, Noted, config_at, State, path_at, OnPath, path_after, operated, Loaded, OperatedAs, Operates, RanAs, HoldsStart, from_start}
 use Rattle.marker_operations.proofs.Noting.{reached_more}
 
 -- a walk's answer, with a refusal where a multiplexer stops it
@@ -54,6 +54,9 @@ module _ (ns : List ℕ) (t : Summary) (scan : Bytes) (k : ℕ) (size : PathSize
     op_walk net w o e =
         rw (eq-eqb (length bits) (path_length p) (length-map scan byte_bit ∙ long ∙ o.found.long), ← loads.loads t.count, e)
 
+    loaded : {net : Network} → OnPath net ns t size old → Loaded ns t p scan k old.marking new.marking
+    loaded o = record { as_long = long ∙ o.found.long; after = loads.loads t.count; noted = noted }
+
     pub op_told : Operates ns t scan k size old (told_as (λ m. record { kind = Configuration; place = k }) r) new
     op_told net o = go r refl
       where
@@ -63,14 +66,13 @@ module _ (ns : List ℕ) (t : Summary) (scan : Bytes) (k : ℕ) (size : PathSize
             record {
               tells = sym (op_walk net _ o f.walks);
               leaves = (
-                record { after = loads.loads t.count; noted = noted },
+                loaded o,
                 record { stored = o.stored; found = f; in_limits = o.in_limits; sized = loads.sized; slots_law = noted.size },
               );
             }
-        go (Err m) q = record {
-          tells = sym (op_walk net _ o (found_stop net ns t.count t.out o.stored new.marking.bits new.marking.known r new.way found m q));
-          leaves = tt;
-        }
+        go (Err m) q =
+            let stops = found_stop net ns t.count t.out o.stored new.marking.bits new.marking.known r new.way found m q in
+            record { tells = sym (op_walk net _ o stops); leaves = λ e. (loaded o, (m, stops)) }
 
 -- ---- the model's run, one operation on
 

@@ -5,6 +5,7 @@ use Rattle.std.specs.Prelude.{Option, None as none, Some as some, Result as Answ
 use Rattle.model.specs.Refusals as refusal
 use Rattle.model.specs.Result.{Result, ok, refused}
 use Rattle.model.specs.Answers.{number_of, answer}
+use Rattle.model.specs.declared.refusal.Kind.TheVariants.{Configuration}
 use Rattle.model.specs.declared.refusal.Refusal.{Refusal}
 use Rattle.model.specs.Text.{Bytes}
 use Rattle.model.specs.Network.{Network, Config}
@@ -103,15 +104,16 @@ path_after k (stop m) = refused refusal.configuration k
 abbrev pub operated : Network → ScanPath → Config → List Bool → ℕ → Result ScanPath
 operated net p c bs k = cond (eqb (length bs) (path_length p)) (path_after k (walk net (csu p bs c))) (refused refusal.bit_count k)
 
--- with the path p loaded, its targets are noted, and the words hold the configuration after it
+-- operation k with the path p loaded: its targets are noted, and the words hold the configuration after it
 pub record Loaded (ns : List ℕ) (t : Summary) (p : ScanPath) (scan : Bytes) (k : ℕ) (old new : Marking) : Type 0 where
+  pub as_long : length scan ≡ path_length p
   pub after : config_at ns t new ≡ csu p (map byte_bit scan) (config_at ns t old)
   pub noted : Noted p (take t.target_count t.targets) k old.met new.met
 
--- what an answer leaves
+-- what an answer leaves: the operation loaded too where the configuration after it is not valid
 abbrev pub LeftBy : Network → List ℕ → Summary → ScanPath → Bytes → ℕ → Marking → Answer PathSize Refusal → State → Type 0
 LeftBy net ns t p scan k old (Ok size) new = Loaded ns t p scan k old new.marking × OnPath net ns t size new
-LeftBy net ns t p scan k old (Err r) new = Unit {0}
+LeftBy net ns t p scan k old (Err r) new = r.kind ≡ Configuration → Loaded ns t p scan k old new.marking × ((m : ℕ) × (walk net (config_at ns t new.marking) ≡ stop m))
 
 -- what an answer says of the operation in the network
 pub record OperatedAs (net : Network) (ns : List ℕ) (t : Summary) (p : ScanPath) (scan : Bytes) (k : ℕ) (old : Marking) (r : Answer PathSize Refusal) (new : State) : Type 0 where
