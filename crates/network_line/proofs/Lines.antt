@@ -1,22 +1,23 @@
 -- What the model's line says, by what the parser finds in the line's fields.
 -- Assumes nothing.
-use mathlib.Core.Path.{◌≡◌, refl}
+use mathlib.Core.Path.{◌≡◌, refl, sym, ◌∙◌}
 use mathlib.Core.Bool.{Bool, true, false, cond}
 use Rattle.std.specs.Prelude.{Option, None as none, Some as some, option_map}
 use mathlib.Core.List.{List, [], ◌∷◌}
-use Prim.Native.Nat.{ℕ, ◌≤◌, ◌<◌}
+use Prim.Native.Nat.{ℕ, ◌+◌, ◌-◌, ◌≤◌, ◌<◌}
 use native.Mathlib.Omega.{arith}
-use lib.ListN.{length}
+use lib.ListN.{length, get_or}
 use lib.Dec.{eqb}
 use borrow.Author.Tests.{eq-eqb, ne_eqb}
 use Rattle.model.specs.Text.{Bytes, bind, in_first, parts, decimal, Hold, Write, word_of, fields, bits_from, bits_field, bit, trit}
 use Rattle.model.specs.Network.{write}
 use Rattle.model.specs.NetworkText.{Line, hold, target, field, number_line, bits_line, line_by, line_of, is_some}
 use Rattle.text.specs.Bits.{bits_form}
+use Rattle.text.specs.Places.{FieldAt}
 use Rattle.text.specs.Words.{word_for}
 use Rattle.text.specs.declared.LineWord.{LineWord}
 use Rattle.text.proofs.Bits.{is_some_law, is_none, field_from}
-use Rattle.network_line.specs.Line.{bits_in, entry_means, GoodEntry, number_of, IsPlain, IsParsed, IsParsedLine}
+use Rattle.network_line.specs.Line.{PartOf, bits_in, entry_means, GoodEntry, number_of, IsPlain, IsParsed, IsParsedLine}
 use Rattle.network_line.specs.declared.Entry.{Entry}
 use Rattle.network_line.specs.declared.Entry.TheVariants.{Hold as HoldEntry, Write as WriteEntry}
 use Rattle.network_line.specs.declared.ParsedLine.{ParsedLine}
@@ -34,24 +35,37 @@ parts_some sep (b ∷ t) = go (eqb b sep) (parts sep t)
     go false [] = omega arith
     go false (p ∷ ps) = omega arith
 
+-- no bytes, and those of a field, are a part of the line
+pub no_part : (l : Bytes) → PartOf l []
+no_part l = record { start = 0; end = 0; ordered = omega arith; within = omega arith; bytes = refl }
+
+pub field_part : {l : Bytes} {starts : List ℕ} {k : ℕ} {f : Bytes} → FieldAt l starts k → f ≡ field (fields l) k → PartOf l f
+field_part {starts = starts} {k = k} at e = record {
+  start = get_or starts k 0;
+  end = get_or starts (k + 1) 0 - 1;
+  ordered = omega (arith, at.ordered);
+  within = omega (arith, at.within);
+  bytes = e ∙ sym at.content;
+}
+
 -- ---- whole lines
 
 -- the line by its word, which its first field is
 module _ (l f : Bytes) (is : f ≡ field (fields l) 0) where
   pub no_word : none ≡ word_of f → IsParsedLine l none
   unfolding line_of
-  no_word e = record { means = rw (← is, ← e); good = tt }
+  no_word e = record { part = tt; means = rw (← is, ← e); good = tt }
 
-  pub by_word : (found w : LineWord) (r : Option ParsedLine) → some (word_for found) ≡ word_of f → found ≡ w → IsParsed (line_by (fields l) (word_for w)) r → IsParsedLine l r
+  pub by_word : (found w : LineWord) (r : Option ParsedLine) → some (word_for found) ≡ word_of f → found ≡ w → IsParsed l (line_by (fields l) (word_for w)) r → IsParsedLine l r
   unfolding line_of
   by_word found w r e q i = rw (← is, ← e, q) i
 
-pub no_line : (o : Option Line) → none ≡ o → IsParsed o none
-no_line o e = record { means = e; good = tt }
+pub no_line : {l : Bytes} (o : Option Line) → none ≡ o → IsParsed l o none
+no_line o e = record { part = tt; means = e; good = tt }
 
 -- a line without BITS and RESET
-pub plain_line : (o : Option Line) (e : Entry) (p : ParsedLine) → IsPlain e p → some (entry_means [] e) ≡ o → GoodEntry [] e → IsParsed o (some p)
-plain_line o e p i m g = record { means = rw (i.says, i.empty) m; good = rw (i.says, i.empty) g }
+pub plain_line : {l : Bytes} (o : Option Line) (e : Entry) (p : ParsedLine) → IsPlain e p → some (entry_means [] e) ≡ o → GoodEntry [] e → IsParsed l o (some p)
+plain_line {l} o e p i m g = record { part = rw i.empty (no_part l); means = rw (i.says, i.empty) m; good = rw (i.says, i.empty) g }
 
 -- ---- `out` and `read`
 

@@ -1,6 +1,6 @@
 -- What a parsed line means.
 -- Assumes nothing.
-use Rattle.std.specs.Prelude.{◌≡◌, true, cond, List, [], ◌∷◌, ℕ, ◌≤◌, length, take, get_or, eqb}
+use Rattle.std.specs.Prelude.{◌≡◌, true, cond, List, [], ◌∷◌, ℕ, ◌-◌, ◌≤◌, length, take, drop, get_or, eqb}
 use Rattle.std.specs.Prelude.{Option, None as none, Some as some, option_map, unwrap_or, IfSome}
 use Rattle.model.specs.Text.{Bytes, bind, decimal, bit, trit, bits_from}
 use Rattle.model.specs.Network.{Node, segment, multiplexer, read, write}
@@ -17,6 +17,14 @@ use Rattle.network_line.specs.declared.ParsedLine.{ParsedLine}
 -- the count of a line's fields and the places of the first seven
 abbrev pub FieldsPlaced : Bytes → List ℕ → ℕ → Type 0
 FieldsPlaced line starts count = IsSplit line record { count = count; starts = starts }
+
+-- the bytes of a line from start to one before end
+pub record PartOf (line part : Bytes) : Type 0 where
+  pub start : ℕ
+  pub end : ℕ
+  pub ordered : start ≤ end
+  pub within : end ≤ length line
+  pub bytes : part ≡ take (end - start) (drop start line)
 
 -- ---- what a line says
 
@@ -88,10 +96,11 @@ pub record IsPlain (e : Entry) (p : ParsedLine) : Type 0 where
   pub says : p.entry ≡ e
   pub empty : p.bits.now ≡ []
 
--- a parsed line that says o, or none
-pub record IsParsed (o : Option Line) (r : Option ParsedLine) : Type 0 where
+-- a parsed line that says o, with its BITS or RESET field as a part of the line, or none
+pub record IsParsed (l : Bytes) (o : Option Line) (r : Option ParsedLine) : Type 0 where
+  pub part : IfSome r (λ p. PartOf l p.bits.now)
   pub means : option_map line_means r ≡ o
   pub good : IfSome r GoodLine
 
 abbrev pub IsParsedLine : Bytes → Option ParsedLine → Type 0
-IsParsedLine l r = IsParsed (line_of l) r
+IsParsedLine l r = IsParsed l (line_of l) r

@@ -80,7 +80,7 @@ fn segment_of(line: &[u8], starts: &[usize; 8]) -> Option<NodeData>
 // `seg FROM LEN KIND [RESET]`.
 fn seg_line<'a, 'b>(line: &'a [u8], starts: &'b [usize; 8], count: usize) -> Option<ParsedLine<'a>>
     requires { FieldsPlaced line.now starts.now count }
-    ensures { IsParsed (line_by (fields line.now) Seg) result }
+    ensures { IsParsed line.now (line_by (fields line.now) Seg) result }
 {
     if count < 4 || 5 < count {
         return None;
@@ -145,7 +145,7 @@ fn bits_line<'a, 'b>(
     unknown: bool,
 ) -> Option<ParsedLine<'a>>
     requires { FieldsPlaced line.now starts.now count }
-    ensures { IsParsed (line_by (fields line.now) (cond unknown Hold Write)) result }
+    ensures { IsParsed line.now (line_by (fields line.now) (cond unknown Hold Write)) result }
 {
     if count != 3 {
         return None;

@@ -1,8 +1,9 @@
 -- `network_line::bits_line` meets its contract, by the field of BITS.
 -- Assumes nothing.
 use mathlib.Core.Path.{◌≡◌, refl, sym, ap, ◌∙◌}
+use native.Mathlib.Omega.{arith}
 use Rattle.text.specs.Bits.{bits_form}
-use Rattle.network_line.proofs.Lines.{bits_entry, no_line, bits_count, bits_number, bits_wrong, bits_line_law}
+use Rattle.network_line.proofs.Lines.{field_part, bits_entry, no_line, bits_count, bits_number, bits_wrong, bits_line_law}
 use Rattle.network_line.proofs.bits_line.Goals as goal
 use Rattle.network_line.proofs.bits_line.Goals.{then-unknown, else-unknown}
 
@@ -24,4 +25,8 @@ returns c =
     let line = bits_line_law _ (sym c.requires.counted ∙ c.if-count-ne3.false) _ d.value c.args.unknown (d.small _ refl) (form ∙ c.if-not-are_bits.false) in
     let entry : c.if-unknown.entry ≡ bits_entry c.args.unknown c.in_ok-s.s =
     elim c.if-unknown.branch [ then-unknown w ↦ rw w.if-unknown.true w.entry-is | else-unknown w ↦ rw w.if-unknown.false w.entry-is ] in
-    record { means = rw (entry, c.field-bits.ensures) line.0; good = rw (entry, c.field-bits.ensures) line.1 }
+    record {
+      part = field_part (c.requires.placed 2 (omega arith) (omega (arith, c.requires.counted, c.if-count-ne3.false))) c.field-bits.ensures;
+      means = rw (entry, c.field-bits.ensures) line.0;
+      good = rw (entry, c.field-bits.ensures) line.1;
+    }

@@ -4,7 +4,7 @@ use mathlib.Core.Bool.{true}
 use mathlib.Core.Path.{sym, ap, ◌∙◌}
 use native.Mathlib.Omega.{arith}
 use Rattle.text.specs.Bits.{bits_form}
-use Rattle.network_line.proofs.Lines.{no_line, plain_line}
+use Rattle.network_line.proofs.Lines.{field_part, no_line, plain_line}
 use Rattle.network_line.proofs.SegLines.{seg_count, seg_none_of, seg_plain, seg_wrong, seg_reset}
 use Rattle.network_line.proofs.seg_line.Goals as goal
 
@@ -28,4 +28,8 @@ pub returns : goal.returns
 returns c =
     let form = sym (c.are_bits.ensures ∙ ap (bits_form true) c.field-bits.ensures) in
     let line = seg_reset _ (omega (arith, c.requires.counted)) _ (form ∙ c.if-not-are_bits.false) c.in_ok-segment_of.ensures in
-    record { means = rw c.field-bits.ensures line.0; good = rw c.field-bits.ensures line.1 }
+    record {
+      part = field_part (c.requires.placed 4 (omega arith) (omega (arith, c.requires.counted))) c.field-bits.ensures;
+      means = rw c.field-bits.ensures line.0;
+      good = rw c.field-bits.ensures line.1;
+    }
