@@ -57,22 +57,21 @@ module _ (ns : List ℕ) (t : Summary) (scan : Bytes) (k : ℕ) (size : PathSize
     loaded : {net : Network} → OnPath net ns t size old → Loaded ns t p scan k old.marking new.marking
     loaded o = record { as_long = long ∙ o.found.long; after = loads.loads t.count; noted = noted }
 
-    pub op_told : Operates ns t scan k size old (told_as (λ m. record { kind = Configuration; place = k }) r) new
-    op_told net o = go r refl
-      where
-        go : (x : Answer PathSize ℕ) → r ≡ x → OperatedAs net ns t p scan k old.marking (told_as (λ m. record { kind = Configuration; place = k }) x) new
-        go (Ok next) q =
-            let f = found_path net ns t.count t.out o.stored new.marking.bits new.marking.known r new.way found next q in
-            record {
-              tells = sym (op_walk net _ o f.walks);
-              leaves = (
-                loaded o,
-                record { stored = o.stored; found = f; in_limits = o.in_limits; sized = loads.sized; slots_law = noted.size },
-              );
-            }
-        go (Err m) q =
-            let stops = found_stop net ns t.count t.out o.stored new.marking.bits new.marking.known r new.way found m q in
-            record { tells = sym (op_walk net _ o stops); leaves = λ e. (loaded o, (m, stops)) }
+    pub op_next : (next : PathSize) → r ≡ Ok next → Operates ns t scan k size old (Ok next) new
+    op_next next q net o =
+        let f = found_path net ns t.count t.out o.stored new.marking.bits new.marking.known r new.way found next q in
+        record {
+          tells = sym (op_walk net _ o f.walks);
+          leaves = (
+            loaded o,
+            record { stored = o.stored; found = f; in_limits = o.in_limits; sized = loads.sized; slots_law = noted.size },
+          );
+        }
+
+    pub op_stopped : (m : ℕ) → r ≡ Err m → Operates ns t scan k size old (Err record { kind = Configuration; place = k }) new
+    op_stopped m q net o =
+        let stops = found_stop net ns t.count t.out o.stored new.marking.bits new.marking.known r new.way found m q in
+        record { tells = sym (op_walk net _ o stops); leaves = λ e. (loaded o, (m, stops)) }
 
 -- ---- the model's run, one operation on
 

@@ -88,7 +88,10 @@ fn run_operation<'a>(
         met,
     );
     load(nodes, way, path.segments, scan, bits, known);
-    find_path(nodes, bits, known, t.out, way).map_err(|_| Kind::Configuration.at(k))
+    match find_path(nodes, bits, known, t.out, way) {
+        Ok(next) => Ok(next),
+        Err(_) => Err(Kind::Configuration.at(k)),
+    }
 }
 
 // The operations of a plan text of good form, from the start's path in way; bits and known end as the last configuration.
