@@ -1,7 +1,7 @@
 -- Laws of a path that the lent memory holds: its length, its segments one after the other, and their places.
 -- Assumes nothing.
 use mathlib.Core.Path.{◌≡◌, refl, sym, ap, subst, ◌∙◌}
-use mathlib.Core.Bool.{cond}
+use mathlib.Core.Bool.{Bool, true, false, cond, ◌||◌}
 use Rattle.std.specs.Prelude.{Option, None as none, Some as some, Ok, Err}
 use mathlib.Core.List.{List, [], ◌∷◌}
 use Prim.Native.Nat.{ℕ, zero, suc, ◌+◌, ◌*◌, ◌<◌, ◌≤◌}
@@ -13,7 +13,7 @@ use lib.Dec.{eqb}
 use lib.ListN.{length, get_or, take, drop, drop_of_length-le}
 use lib.Seq.{drop-cons, get_or-take, length-take-le}
 use Rattle.model.specs.Network.{len_of}
-use Rattle.model.specs.Path.{path, walk_from, path_length, place, on}
+use Rattle.model.specs.Path.{ScanPath, path, walk_from, path_length, place, on}
 use Rattle.model.specs.PathSum.{sum_from}
 use Rattle.model.specs.Text.{bind}
 use Rattle.model.proofs.Lists.{some_same}
@@ -104,3 +104,18 @@ module _ (ns way : List ℕ) (n s : ℕ) where
       let there : place (scan_path ns (drop i (take n way))) s ≡ bind (place (scan_path ns (drop (i + 1) (take n way))) s) (λ q. some (len + q)) =
       by_segment i k on ∙ rw (ne_eqb k s ne, ← e) in
       record { bound = omega arith; whole = more_before (place (scan_path ns (drop (i + 1) (take n way))) s) p len ∙ (rw there at w.whole) }
+
+-- ---- a segment has a place exactly where it is on the path
+
+abbrev pub is_place : Option ℕ → Bool
+is_place none = false
+is_place (some p) = true
+
+pub on_place : (p : ScanPath) (s : ℕ) → on p s ≡ is_place (place p s)
+on_place [] s = refl
+on_place (h ∷ p) s = go (eqb h.number s) (place p s) (on_place p s)
+  where
+    go : (t : Bool) (o : Option ℕ) → on p s ≡ is_place o → (t || on p s) ≡ is_place (cond t (some 0) (bind o (λ q. some (h.len + q))))
+    go true o e = refl
+    go false none e = e
+    go false (some q) e = e
