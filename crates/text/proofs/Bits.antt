@@ -7,9 +7,9 @@ use Rattle.std.specs.List.{list_all}
 use Rattle.std.proofs.lemmas.List.{take_all}
 use Rattle.std.proofs.lemmas.Bool.Decides.{nat_tests}
 use mathlib.Core.List.{List, [], ◌∷◌}
-use Prim.Native.Nat.{ℕ, ◌+◌}
+use Prim.Native.Nat.{ℕ, ◌+◌, ◌≤◌}
 use native.Mathlib.Omega.{arith}
-use lib.ListN.{length}
+use lib.ListN.{length, drop, drop_of_length-le}
 use lib.Dec.{eqb}
 use Rattle.model.specs.Text.{Bytes, bind, bit, trit, bits_from, bits_field}
 use Rattle.model.specs.NetworkText.{is_some}
@@ -54,6 +54,10 @@ form_by_length true (b ∷ f) = grind (arith, nat_tests)
 form_by_length false (b ∷ f) = grind (arith, nat_tests)
 
 module _ {A : Type 0} (read : ℕ → Option A) where
+  pub bits_last : (f : Bytes) (i : ℕ) (above bs : List A) → length f ≤ i → bits_from read above (drop i f) ≡ some bs → above ≡ bs
+  unfolding bits_from
+  bits_last f i above bs h e = some_same above bs (rw (drop_of_length-le f h) at e)
+
   pub from_length : (f : Bytes) (above bs : List A) → bits_from read above f ≡ some bs → length bs ≡ length f + length above
   unfolding bits_from
   from_length [] above bs e = omega (arith, ap length (some_same above bs e))
