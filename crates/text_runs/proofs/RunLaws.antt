@@ -12,8 +12,9 @@ use lib.Dec.{eqb, leb}
 use Rattle.std.proofs.lemmas.Bool.Decides.{nat_tests}
 use borrow.Author.Tests.{leb-true, leb-false, le-leb, lt-leb}
 use Rattle.model.specs.Text.{Bytes, parts, in_first}
+use Rattle.model.proofs.Lists.{and_parts}
 use Rattle.text.specs.Places.{bytes_before}
-use Rattle.text_runs.specs.Runs.{other, run_length}
+use Rattle.text_runs.specs.Runs.{in_run, other, run_length}
 
 -- ---- the run from place i on, by the byte there
 
@@ -95,6 +96,13 @@ run_bytes good (b ∷ t) k h = go (good b) refl k h (run_bytes good t)
     go false e k l f = absurd (omega arith)
     go true e zero l f = e
     go true e (suc k) l f = f k (omega arith)
+
+-- of a run of zeros each byte is one
+pub run_zero : (t : Bytes) (k : ℕ) → k < run_length (in_run 48) t → get_or t k 0 ≡ 48
+run_zero t k h =
+    let b = get_or t k 0 in
+    let p = and_parts (leb 48 b) (leb b 48) (run_bytes (in_run 48) t k h) in
+    omega (arith, leb-true 48 b p.0, leb-true b 48 p.1)
 
 -- ---- up to a separator
 
