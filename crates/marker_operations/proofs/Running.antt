@@ -28,7 +28,7 @@ use Rattle.network_path.proofs.StoredLaws.{found_path, found_stop}
 use Rattle.plan_text.specs.Lines.{bit_run}
 use Rattle.plan_text.proofs.Lines.{line_room, line_bits, line_next, line_more, line_none}
 use Rattle.network_draft.specs.declared.store.Summary.{Summary}
-use Rattle.marker_operations.specs.Operations.{Reached, Noted, config_at, State, path_at, OnPath, path_after, operated, Loaded, OperatedAs, Operates, RanAs, HoldsStart, from_start}
+use Rattle.marker_operations.specs.Operations.{Reached, Noted, config_at, State, path_at, OnPath, path_after, operated, Loaded, Operates, RanAs, HoldsStart, from_start}
 use Rattle.marker_operations.proofs.Noting.{reached_more}
 
 -- a walk's answer, with a refusal where a multiplexer stops it
