@@ -18,5 +18,5 @@ returns-in-Ok c = let w = printed_to _ _ (at_front _ _ refl c.put_operations.ens
 
 pub returns-in-Err : goal.returns-in-Err
 returns-in-Err c = let bad = form_refused _ _ _ c.check_form.ensures c.in-Err.is in
-    let w = printed_to _ _ (at_front _ _ (clocks_refused _ _ _ bad) c.put_refusal.ensures) in
+    let w = printed_to _ _ (at_front _ _ (clocks_refused _ _ _ bad) (rw c.number.ensures at c.put_refusal.ensures)) in
     record { printed_to = w.0; prefix_len = w.1 }
