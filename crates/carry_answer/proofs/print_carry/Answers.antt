@@ -12,5 +12,5 @@ returns-in-Ok c =
 
 pub returns-in-Err : goal.returns-in-Err
 returns-in-Err c =
-    let p = printed_to _ _ (carry_refused _ _ _ (search rules) _ _ c.in-Err.ensures c.put_refusal.ensures) in
+    let p = printed_to _ _ (carry_refused _ _ _ (search rules) _ _ c.in-Err.ensures (rw c.number.ensures at c.put_refusal.ensures)) in
     record { printed_to = p.0; prefix_len = p.1 }

@@ -17,5 +17,5 @@ returns-in-Ok c =
 pub returns-in-Err : goal.returns-in-Err
 returns-in-Err c =
     let shown = mark_refused _ _ c.in-Err.refusal c.in-Err.ensures in
-    let p = printed_to _ _ (at_front _ _ shown c.put_refusal.ensures) in
+    let p = printed_to _ _ (at_front _ _ shown (rw c.number.ensures at c.put_refusal.ensures)) in
     record { printed_to = p.0; prefix_len = p.1 }
