@@ -13,5 +13,5 @@ returns-in-Ok c =
 
 pub returns-in-Err : goal.returns-in-Err
 returns-in-Err c =
-    let p = printed_to _ _ (plan_refused _ _ _ (search rules) (search rules) _ _ _ c.in-Err.ensures _ refl (search rules)) in
+    let p = printed_to _ _ (plan_refused _ _ _ (search rules) (search rules) _ _ _ c.in-Err.ensures _ refl (rw c.number.ensures at c.put_refusal.ensures)) in
     record { printed_to = p.0; prefix_len = p.1 }
