@@ -28,6 +28,8 @@ pub struct Scan {
     pub reports: bool,
     // The option that decides, by its number.
     pub decides: Option<usize>,
+    // The count of operands. Of more than two the last takes the second's place.
+    pub operands: usize,
     pub first: Option<Operand>,
     pub second: Option<Operand>,
     // The first operand too many, by its number.
@@ -69,21 +71,15 @@ fn is_there(rt: &HostRuntime, i: usize) -> bool {
 }
 
 impl Scan {
-    // The count of operands.
-    pub fn operands(self) -> usize {
-        match (self.first, self.second) {
-            (None, _) => 0,
-            (Some(_), None) => 1,
-            (Some(_), Some(_)) => 2,
-        }
-    }
-
     // Argument i as an operand of a program that takes so many at most.
     fn add_operand(&mut self, most: usize, i: usize, operand: Operand) {
-        if 0 < most && self.first.is_none() {
-            self.first = Some(operand);
-        } else if 1 < most && self.second.is_none() {
-            self.second = Some(operand);
+        if self.operands < most {
+            if self.operands == 0 {
+                self.first = Some(operand);
+            } else {
+                self.second = Some(operand);
+            }
+            self.operands += 1;
         } else if self.extra.is_none() {
             self.extra = Some(i);
         }
@@ -107,6 +103,7 @@ pub fn scan_all(rt: &HostRuntime, most: usize) -> Scan {
         options_ended: false,
         reports: false,
         decides: None,
+        operands: 0,
         first: None,
         second: None,
         extra: None,

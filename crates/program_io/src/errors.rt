@@ -14,7 +14,10 @@ pub const ENAMETOOLONG: i32 = 36;
 
 pub const EILSEQ: i32 = 84;
 
-// An error as messages show it.
+// A write that took nothing sets no number, and has the words of the number 0.
+const NOTHING_TAKEN: &str = "nothing was taken";
+
+// An error as messages show it. A number below 0 is shown as 0.
 #[derive(Clone, Copy)]
 pub struct Words(pub Error);
 
@@ -23,7 +26,7 @@ impl fmt::Display for Words {
         match self.0.raw_os_error() {
             Some(number) => match words_of(number) {
                 Some(words) => f.write_str(words),
-                None => write!(f, "error {}", number),
+                None => write!(f, "error {}", number.max(0)),
             },
             None => f.write_str(own_words(self.0.kind())),
         }
@@ -33,7 +36,7 @@ impl fmt::Display for Words {
 // The library's own errors: a write that took nothing, and others that no program meets, as that for a path with a byte 0.
 fn own_words(kind: ErrorKind) -> &'static str {
     match kind {
-        ErrorKind::WriteZero => "nothing was taken",
+        ErrorKind::WriteZero => NOTHING_TAKEN,
         _ => "Input/output error",
     }
 }
@@ -41,6 +44,7 @@ fn own_words(kind: ErrorKind) -> &'static str {
 // The words for a number of the system's; None for one that has none here.
 fn words_of(number: i32) -> Option<&'static str> {
     match number {
+        0 => Some(NOTHING_TAKEN),
         1 => Some("Operation not permitted"),
         2 => Some("No such file or directory"),
         EINTR => Some("Interrupted system call"),

@@ -68,10 +68,11 @@ fn write_digit(rt: &HostRuntime, digit: &[u8; 1]) -> Result<()> {
 
 impl Call<'_> {
     // Nothing follows: a status that can't be written is told by a message alone.
-    pub fn finish(self, status: Status) {
+    pub fn finish<S: Into<Status>>(self, status: S) {
+        let digit = status.into().digit();
         if self.reports {
-            if let Err(error) = write_digit(self.program.rt, &status.digit()) {
-                self.program.say_error("descriptor 3", error);
+            if let Err(error) = write_digit(self.program.rt, &digit) {
+                self.program.say_error(b"descriptor 3", error);
             }
         }
     }

@@ -5,6 +5,9 @@ use crate::status::Status;
 
 const VERSION: &str = "1.5";
 
+// Room for the line of a version. What does not fit of a long name is left out.
+const VERSION_ROOM: usize = 64;
+
 // What all programs have.
 const OPTIONS: &str = "  --help     show this text\n  \
     --version  show the version\n  \
@@ -13,16 +16,16 @@ const OPTIONS: &str = "  --help     show this text\n  \
 
 impl Program<'_> {
     pub fn put_version(self) -> Status {
-        let mut line = Line::new();
-        line.add(self.name.as_bytes());
+        let mut line = Line::with_room(VERSION_ROOM);
+        line.add(self.name);
         line.add(b" (penthluk) ");
         line.add(VERSION.as_bytes());
         self.put(line.ended(), Status::Answered)
     }
 
     // The program's own lines, then the others. Nothing is written after a write that failed.
-    pub fn put_help(self, help: &str) -> Status {
-        if self.put_part(help.as_bytes()) {
+    pub fn put_help(self, help: &[u8]) -> Status {
+        if self.put_part(help) {
             return self.put(OPTIONS.as_bytes(), Status::Answered);
         }
         Status::NoAnswer

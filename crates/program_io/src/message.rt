@@ -14,7 +14,7 @@ impl Program<'_> {
     // A line that begins with the program's name.
     fn line(self) -> Line {
         let mut line = Line::new();
-        line.add(self.name.as_bytes());
+        line.add(self.name);
         line.add(b": ");
         line
     }
@@ -50,31 +50,31 @@ impl Program<'_> {
     }
 
     // What is wrong.
-    pub fn say(self, what: &str) -> Status {
+    pub fn say(self, what: &[u8]) -> Status {
         let mut line = self.line();
-        line.add(what.as_bytes());
+        line.add(what);
         self.send(line)
     }
 
     // What is wrong with argument i.
-    pub fn say_argument(self, i: usize, what: &str) -> Status {
+    pub fn say_argument(self, i: usize, what: &[u8]) -> Status {
         let mut line = self.line();
         self.add_argument(&mut line, i);
-        line.add(what.as_bytes());
+        line.add(what);
         self.send(line)
     }
 
     // The error of a call on a descriptor that is named.
-    pub fn say_error(self, what: &str, error: Error) -> Status {
+    pub fn say_error(self, what: &[u8], error: Error) -> Status {
         let mut line = self.line();
-        line.add(what.as_bytes());
+        line.add(what);
         self.send_error(line, error)
     }
 
     // The error of reading an operand.
     pub fn say_unread(self, operand: Operand, error: Error) -> Status {
         match operand {
-            Operand::StandardInput => self.say_error("standard input", error),
+            Operand::StandardInput => self.say_error(b"standard input", error),
             Operand::Argument(i) => {
                 let mut line = self.line();
                 self.add_argument(&mut line, i);

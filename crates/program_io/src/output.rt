@@ -5,10 +5,11 @@ use crate::write::write_whole;
 
 impl Program<'_> {
     // Bytes with the status that they give where they are written whole; else a message says why they are not.
-    pub fn put(self, bytes: &[u8], status: Status) -> Status {
+    pub fn put<S: Into<Status>>(self, bytes: &[u8], status: S) -> Status {
+        let whole = status.into();
         match write_whole(&mut self.rt.stdout(), bytes) {
-            Ok(()) => status,
-            Err(error) => self.say_error("standard output", error),
+            Ok(()) => whole,
+            Err(error) => self.say_error(b"standard output", error),
         }
     }
 
@@ -23,7 +24,7 @@ impl Program<'_> {
 
     // The line in the place of an answer, behind the message that says why, with that message's status. An empty output
     // would be a plan of no operations; no program takes this line for a text.
-    pub fn put_no_answer(self, said: Status) -> Status {
+    pub fn put_no_answer<S: Into<Status>>(self, said: S) -> Status {
         self.put(b"error\n", said)
     }
 }

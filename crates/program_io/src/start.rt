@@ -6,7 +6,7 @@ use crate::status::Status;
 #[derive(Clone, Copy)]
 pub struct Program<'a> {
     pub rt: &'a HostRuntime,
-    pub name: &'static str,
+    pub name: &'a [u8],
 }
 
 // What a program is asked to do.
@@ -21,40 +21,42 @@ pub struct Call<'a> {
 
 impl Program<'_> {
     // The option that decides.
-    fn answer_option(self, help: &str, i: usize) -> Status {
+    fn answer_option(self, help: &[u8], i: usize) -> Status {
         match kind_at(self.rt, i, false) {
             Kind::Help => self.put_help(help),
             Kind::Version => self.put_version(),
-            _ => self.put_no_answer(self.say_argument(i, " is no option; --help shows the usage")),
+            _ => self.put_no_answer(self.say_argument(i, b" is no option; --help shows the usage")),
         }
     }
 
     // The operand behind those that are given.
-    fn say_missing(self, scan: Scan) -> Status {
-        if scan.first.is_none() {
-            return self.say("NETWORK is missing; --help shows the usage");
+    fn say_missing(self, operands: usize) -> Status {
+        if operands == 0 {
+            return self.say(b"NETWORK is missing; --help shows the usage");
         }
-        self.say("PLAN is missing; --help shows the usage")
+        self.say(b"PLAN is missing; --help shows the usage")
     }
 
     // What is wrong with the operands, as a message's status, or nothing.
     fn check_operands(self, least: usize, scan: Scan) -> Result<(), Status> {
         if let Some(i) = scan.extra {
-            return Err(self.say_argument(i, " is one argument too many; --help shows the usage"));
+            return Err(self.say_argument(i, b" is one argument too many; --help shows the usage"));
         }
-        if scan.operands() < least {
-            return Err(self.say_missing(scan));
+        if scan.operands < least {
+            return Err(self.say_missing(scan.operands));
         }
         if scan.first == Some(Operand::StandardInput)
             && scan.second == Some(Operand::StandardInput)
         {
-            return Err(self.say("'-' stands for both texts; standard input can be read only once"));
+            return Err(self.say(
+                b"'-' stands for both texts; standard input can be read only once",
+            ));
         }
         Ok(())
     }
 
     // What the arguments alone decide: that the program runs, or the status with which it ends.
-    fn check_arguments(self, help: &str, least: usize, scan: Scan) -> Result<(), Status> {
+    fn check_arguments(self, help: &[u8], least: usize, scan: Scan) -> Result<(), Status> {
         if let Some(i) = scan.decides {
             return Err(self.answer_option(help, i));
         }
@@ -69,8 +71,8 @@ impl Program<'_> {
 // said and reported.
 pub fn begin<'a>(
     rt: &'a HostRuntime,
-    name: &'static str,
-    help: &str,
+    name: &'a [u8],
+    help: &[u8],
     least: usize,
     most: usize,
 ) -> Option<Call<'a>> {

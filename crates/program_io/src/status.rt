@@ -1,4 +1,7 @@
 // The status of a program, which it writes as a digit to descriptor 3 where it is asked to.
+ghost use Rattle.std.specs.Prelude.{◌≡◌, ◌≤◌};
+ghost use Rattle.program_io.specs.declared.status.Status.TheVariants.{Answered, Refused, NoAnswer};
+
 use program_lines::exit_status;
 
 #[derive(Clone, Copy, PartialEq, Eq)]
@@ -11,6 +14,19 @@ pub enum Status {
 
     // Wrong arguments, a text that can't be read, or a write that failed.
     NoAnswer,
+}
+
+// A status by its number; each number but 0 and 1 stands for no answer.
+impl From<u8> for Status {
+    ghost from_gives = { λ number status. (number ≡ 0 → status ≡ Answered) × (number ≡ 1 → status ≡ Refused) × (2 ≤ number → status ≡ NoAnswer) };
+
+    fn from(number: u8) -> Status {
+        match number {
+            0 => Status::Answered,
+            1 => Status::Refused,
+            _ => Status::NoAnswer,
+        }
+    }
 }
 
 impl Status {
