@@ -9,7 +9,7 @@ use clock_writer::{STATES, State, next_state};
 use program_io::start::begin;
 use program_lines::put_line;
 
-const USAGE: &str = "usage: controller_table\n\
+const USAGE: &[u8] = b"usage: controller_table\n\
     Prints state with its number and the next states for TMS 0 and TMS 1, for each state.\n";
 
 // Room for sixteen lines of `state` and three fields, each a tab and at most 20 digits: 16 * (5 + 3 * 21 + 1) bytes.
@@ -35,7 +35,7 @@ fn put_states(out: &mut [u8]) -> usize
 }
 
 fn main(rt: HostRuntime) {
-    let Some(call) = begin(&rt, "controller_table", USAGE, 0, 0) else {
+    let Some(call) = begin(&rt, b"controller_table", USAGE, 0, 0) else {
         return;
     };
     let mut out = [0u8; ROOM];

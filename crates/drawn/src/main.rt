@@ -6,7 +6,7 @@ use program_io::line::Line;
 use program_io::start::{Program, begin};
 use program_io::status::Status;
 
-const USAGE: &str = "usage: drawn\n\
+const USAGE: &[u8] = b"usage: drawn\n\
     Prints what the programs print for the networks of document 01, each behind a title line.\n";
 
 fn put_title(to: Program<'_>, title: &str, program: &str) -> bool {
@@ -132,7 +132,7 @@ fn put_all(to: Program<'_>) -> bool {
 }
 
 fn main(rt: HostRuntime) {
-    let Some(call) = begin(&rt, "drawn", USAGE, 0, 0) else {
+    let Some(call) = begin(&rt, b"drawn", USAGE, 0, 0) else {
         return;
     };
     if put_all(call.program) {

@@ -6,12 +6,12 @@ use mark_answer::{ROOM, print_mark};
 use model::limits::{MAX_NETWORK_BYTES, MAX_PLAN_BYTES};
 use program_io::start::begin;
 
-const USAGE: &str = "usage: mark NETWORK PLAN\n\
+const USAGE: &[u8] = b"usage: mark NETWORK PLAN\n\
     NETWORK is the file of a network text, PLAN that of a plan text; - for one of them is standard input.\n\
     Prints pass with the counts of operations and clocks, then got for each read target, or fail, number, place.\n";
 
 fn main(rt: HostRuntime) {
-    let Some(call) = begin(&rt, "mark", USAGE, 2, 2) else {
+    let Some(call) = begin(&rt, b"mark", USAGE, 2, 2) else {
         return;
     };
     let mut network = [0u8; MAX_NETWORK_BYTES + 1];

@@ -5,12 +5,12 @@ use model::limits::MAX_NETWORK_BYTES;
 use plan_answer::{ROOM, print_plan};
 use program_io::start::begin;
 
-const USAGE: &str = "usage: plan [NETWORK]\n\
+const USAGE: &[u8] = b"usage: plan [NETWORK]\n\
     NETWORK is the file of a network text, - or nothing for standard input.\n\
     Prints the plan text, or fail, number, place.\n";
 
 fn main(rt: HostRuntime) {
-    let Some(call) = begin(&rt, "plan", USAGE, 0, 1) else {
+    let Some(call) = begin(&rt, b"plan", USAGE, 0, 1) else {
         return;
     };
     let mut text = [0u8; MAX_NETWORK_BYTES + 1];

@@ -14,7 +14,7 @@ use recover_model::MAX_LINE_BYTES;
 use recoverer::part::recover_part;
 use std::io::Result;
 
-const USAGE: &str = "usage: recover [CLOCKS]\n\
+const USAGE: &[u8] = b"usage: recover [CLOCKS]\n\
     CLOCKS is the file of clk lines, of any number, - or nothing for standard input.\n\
     Prints csu with the bits of each operation that they play, or fail, number, place.\n";
 
@@ -50,7 +50,7 @@ fn read_operand(call: Call<'_>, plan: &mut [u8; MAX_PLAN_BYTES]) -> Result<usize
 }
 
 fn main(rt: HostRuntime) {
-    let Some(call) = begin(&rt, "recover", USAGE, 0, 1) else {
+    let Some(call) = begin(&rt, b"recover", USAGE, 0, 1) else {
         return;
     };
     let mut plan = [0u8; MAX_PLAN_BYTES];
