@@ -2,15 +2,39 @@
 use std::fmt;
 use std::io::{Error, ErrorKind};
 
+pub const EPERM: i32 = 1;
+
+pub const ENOENT: i32 = 2;
+
 pub const EINTR: i32 = 4;
+
+pub const EIO: i32 = 5;
 
 pub const EBADF: i32 = 9;
 
+pub const EAGAIN: i32 = 11;
+
+pub const ENOMEM: i32 = 12;
+
+pub const EACCES: i32 = 13;
+
+pub const ENOTDIR: i32 = 20;
+
+pub const EISDIR: i32 = 21;
+
+pub const EINVAL: i32 = 22;
+
+pub const EMFILE: i32 = 24;
+
 pub const EFBIG: i32 = 27;
+
+pub const ENOSPC: i32 = 28;
 
 pub const EPIPE: i32 = 32;
 
 pub const ENAMETOOLONG: i32 = 36;
+
+pub const ELOOP: i32 = 40;
 
 pub const EILSEQ: i32 = 84;
 
@@ -45,23 +69,23 @@ fn own_words(kind: ErrorKind) -> &'static str {
 fn words_of(number: i32) -> Option<&'static str> {
     match number {
         0 => Some(NOTHING_TAKEN),
-        1 => Some("Operation not permitted"),
-        2 => Some("No such file or directory"),
+        EPERM => Some("Operation not permitted"),
+        ENOENT => Some("No such file or directory"),
         EINTR => Some("Interrupted system call"),
-        5 => Some("Input/output error"),
+        EIO => Some("Input/output error"),
         EBADF => Some("Bad file descriptor"),
-        11 => Some("Resource temporarily unavailable"),
-        12 => Some("Cannot allocate memory"),
-        13 => Some("Permission denied"),
-        20 => Some("Not a directory"),
-        21 => Some("Is a directory"),
-        22 => Some("Invalid argument"),
-        24 => Some("Too many open files"),
+        EAGAIN => Some("Resource temporarily unavailable"),
+        ENOMEM => Some("Cannot allocate memory"),
+        EACCES => Some("Permission denied"),
+        ENOTDIR => Some("Not a directory"),
+        EISDIR => Some("Is a directory"),
+        EINVAL => Some("Invalid argument"),
+        EMFILE => Some("Too many open files"),
         EFBIG => Some("File too large"),
-        28 => Some("No space left on device"),
+        ENOSPC => Some("No space left on device"),
         EPIPE => Some("Broken pipe"),
         ENAMETOOLONG => Some("File name too long"),
-        40 => Some("Too many levels of symbolic links"),
+        ELOOP => Some("Too many levels of symbolic links"),
         EILSEQ => Some("Invalid or incomplete multibyte or wide character"),
         _ => None,
     }
