@@ -12,6 +12,7 @@ use clock_line::{find_line, tdi_of, tms_of};
 use model::refusal::{Kind, Refusal};
 use recover_line::step::{bytes_written, can_go_on};
 use recover_line::{Progress, known, numbers_of};
+use text::end_of;
 
 // A line with so many clocks, none where it has not the form of a `clk` line.
 fn play_line(
@@ -46,7 +47,7 @@ fn refuse_line(p: Progress, text: &[u8]) -> Result<Lines, Refusal>
     requires { None ≡ if_state (progress_from p) }
     ensures { (plan : List ℕ) → DidLines (progress_from p) text.now plan result plan }
 {
-    if find_line(text, 0, 0).end < text.len() {
+    if end_of(text, 0, b'\n') < text.len() {
         return Err(Kind::ClockLine.at(p.lines));
     }
     Ok(Lines { progress: p, at: 0 })

@@ -5,10 +5,10 @@ use Rattle.recover_line.specs.Progress.{progress_from}
 use Rattle.recoverer.proofs.PartLines.{none_ended, first_refused}
 use Rattle.recoverer.proofs.lines.refuse_line.Goals as goal
 
-pub returns-then-find_line-text : goal.returns-then-find_line-text
-returns-then-find_line-text c plan = first_refused c.args.text.now (progress_from c.args.p) plan c.requires _ c.find_line.ensures.ends c.if-find_line-text.true _ c.at.ensures
+pub returns-then-end_of-text : goal.returns-then-end_of-text
+returns-then-end_of-text c plan = first_refused c.args.text.now (progress_from c.args.p) plan c.requires _ c.end_of.ensures c.if-end_of-text.true _ c.at.ensures
 
 pub returns : goal.returns
 returns c plan =
-    let e = c.find_line.ensures.ends in
-    none_ended c.args.text.now c.args.p plan _ e (omega (arith, e.within, c.if-find_line-text.false))
+    let e = c.end_of.ensures in
+    none_ended c.args.text.now c.args.p plan _ e (omega (arith, e.within, c.if-end_of-text.false))
