@@ -6,7 +6,7 @@ use Rattle.model.specs.Network.{read}
 use Rattle.model.specs.NetworkText.{out, target}
 use native.Mathlib.Omega.{arith}
 use Rattle.model.specs.Text.{tab}
-use Rattle.network_line.proofs.Lines.{parts_some, no_word, by_word, no_line, plain_line, number_law}
+use Rattle.network_line.proofs.Lines.{parts_some, no_part, no_word, by_word, no_line, plain_line, number_law}
 use Rattle.network_line.proofs.parse.Goals as goal
 
 pub field-requires : goal.field-requires
@@ -37,7 +37,9 @@ returns-in_err-number_line-in-Out c =
 pub returns-in_ok-number_line-in-Out : goal.returns-in_ok-number_line-in-Out
 returns-in_ok-number_line-in-Out c =
     let line = c.in_ok-number_line-in-Out.ensures in
-    by_word _ _ c.field.ensures _ _ _ c.in_ok-word_of.ensures c.in-Out.is (plain_line _ _ _ c.plain-in-Out.ensures (ap (option_map out) line.value ∙ number_law out _) line.small)
+    let plain = c.plain-in-Out.ensures in
+    by_word _ _ c.field.ensures _ _ _ c.in_ok-word_of.ensures c.in-Out.is
+    record { part = rw plain.empty (no_part _); means = rw plain.says (ap (option_map out) line.value ∙ number_law out _); good = rw plain.says line.small }
 
 pub returns-in-Hold : goal.returns-in-Hold
 returns-in-Hold c = by_word _ _ c.field.ensures _ _ _ c.in_ok-word_of.ensures c.in-Hold.is c.bits_line.ensures
