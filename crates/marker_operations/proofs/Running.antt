@@ -54,8 +54,8 @@ module _ (ns : List ℕ) (t : Summary) (scan : Bytes) (k : ℕ) (size : PathSize
     op_walk net w o e =
         rw (eq-eqb (length bits) (path_length p) (length-map scan byte_bit ∙ long ∙ o.found.long), ← loads.loads t.count, e)
 
-    loaded : {net : Network} → OnPath net ns t size old → Loaded ns t p scan k old.marking new.marking
-    loaded o = record { as_long = long ∙ o.found.long; after = loads.loads t.count; noted = noted }
+    op_loaded : {net : Network} → OnPath net ns t size old → Loaded ns t p scan k old.marking new.marking
+    op_loaded o = record { as_long = long ∙ o.found.long; after = loads.loads t.count; noted = noted }
 
     pub op_next : (next : PathSize) → r ≡ Ok next → Operates ns t scan k size old (Ok next) new
     op_next next q net o =
@@ -63,15 +63,15 @@ module _ (ns : List ℕ) (t : Summary) (scan : Bytes) (k : ℕ) (size : PathSize
         record {
           tells = sym (op_walk net _ o f.walks);
           leaves = (
-            loaded o,
+            op_loaded o,
             record { stored = o.stored; found = f; in_limits = o.in_limits; sized = loads.sized; slots_law = noted.size },
           );
         }
 
-    pub op_stopped : (m : ℕ) → r ≡ Err m → Operates ns t scan k size old (Err record { kind = Configuration; place = k }) new
-    op_stopped m q net o =
+    pub op_stop : (m : ℕ) → r ≡ Err m → Operates ns t scan k size old (Err record { kind = Configuration; place = k }) new
+    op_stop m q net o =
         let stops = found_stop net ns t.count t.out o.stored new.marking.bits new.marking.known r new.way found m q in
-        record { tells = sym (op_walk net _ o stops); leaves = λ e. (loaded o, (m, stops)) }
+        record { tells = sym (op_walk net _ o stops); leaves = λ e. (op_loaded o, (m, stops)) }
 
 -- ---- the model's run, one operation on
 

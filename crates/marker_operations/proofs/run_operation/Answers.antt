@@ -5,7 +5,7 @@ use native.Mathlib.Omega.{arith}
 use Rattle.std.specs.Prelude.{Ok, Err}
 use Rattle.network_path.proofs.StoredLaws.{stored_walkable}
 use Rattle.marker_operations.specs.Operations.{state}
-use Rattle.marker_operations.proofs.Running.{op_next, op_stopped}
+use Rattle.marker_operations.proofs.Running.{op_next, op_stop}
 use Rattle.marker_operations.proofs.run_operation.Goals as goal
 
 pub find_path-requires : goal.find_path-requires
@@ -21,5 +21,5 @@ returns-in-Ok c =
 pub returns-in-Err : goal.returns-in-Err
 returns-in-Err c =
     let is : c.find_path.result ≡ Err c.in-Err.field-0 = grind (arith, c.in-Err.is) in
-    let stopped = op_stopped _ _ _ _ _ (state _ _ _ _) (state _ _ _ _) _ c.if-scan-path.false c.note_targets.ensures c.load.ensures c.find_path.ensures _ is in
+    let stopped = op_stop _ _ _ _ _ (state _ _ _ _) (state _ _ _ _) _ c.if-scan-path.false c.note_targets.ensures c.load.ensures c.find_path.ensures _ is in
     rw c.at-in-Err.ensures (λ net o. record { tells = (stopped net o).tells; leaves = (stopped net o).leaves })
