@@ -9,7 +9,7 @@ use native.Mathlib.Omega.{arith}
 use native.Mathlib.Nat.{add-zero, zero-add}
 use native.Mathlib.Numerals.{add-one}
 use lib.ListN.{length, take, drop, set, get_or, length-append, length-drop, take-append-drop, get_or-append}
-use lib.Seq.{length-take-le, take-suc, drop-cons, drop-drop, set_at, take_at, drop_at, get_or-append-add, get_or-take, get_or-drop, ext_get_or}
+use lib.Seq.{length-take-le, take-suc, drop-cons, drop-drop, set_at, take_at, drop_at, take_all, get_or-append-add, get_or-take, get_or-drop, ext_get_or}
 use Rattle.model.specs.Plan.{Plan}
 use Rattle.model.specs.PlanText.{write_plan}
 use Rattle.model.specs.Tap.{bit_byte}
@@ -107,6 +107,9 @@ module _ (at i : ℕ) (old b : List ℕ) where
       let n : length (take i new) ≡ i = length-take-le i new (omega arith) in
       let m = write_more at (take i new) old (omega arith) (get_or new i 0) in
       rw (add-one, take-suc new i 0 h, e) (rw n at m)
+
+  pub put_done : (new : List ℕ) → length new ≤ i → b ≡ write_at at (take i new) old → b ≡ write_at at new old
+  put_done new h e = e ∙ ap (λ (l : List ℕ). write_at at l old) (take_all i new h)
 
 -- ---- from the front of a buffer on
 

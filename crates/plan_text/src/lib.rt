@@ -69,16 +69,17 @@ pub fn bits_at(plan: &[u8], at: usize) -> &[u8]
     &plan[start..end]
 }
 
-// Bytes written into a buffer from a place on; the place behind them.
-#[tactic(auto, unfolding(crate::specs::Writing::write_at))]
+// Bytes written into a buffer from a place on; the place behind them. A loop, as a copy by the library wants `memmove` of whoever links
+// the calls under C names.
 pub fn put(buf: &mut [u8], at: usize, new: &[u8]) -> usize
     requires { at + length new.now ≤ length buf.old }
     ensures value { result ≡ at + length new.now }
     ensures buf_after { buf.new ≡ write_at at new.now buf.old }
 {
-    let end = at + new.len();
-    buf[at..end].copy_from_slice(new);
-    end
+    for i in 0..new.len() {
+        buf[at + i] = new[i];
+    }
+    at + new.len()
 }
 
 // A byte written n times from a place on; the place behind them.
