@@ -1,10 +1,10 @@
 -- `planner_search::plan::find_plan` meets its contract.
 -- Assumes nothing.
-use Prim.Native.Nat.{ℕ, ◌≤◌}
-use mathlib.Core.Path.{◌≡◌, ap, ◌∙◌}
+use Prim.Native.Nat.{ℕ}
+use mathlib.Core.Path.{ap, ◌∙◌}
 use mathlib.Core.List.{List}
 use native.Mathlib.Omega.{arith}
-use lib.ListN.{length, get_or}
+use lib.ListN.{get_or}
 use Rattle.planner_search.proofs.Zeros.{cleared_low, cleared_again}
 use Rattle.planner_search.proofs.Answer.{nothing_found, plan_found}
 use Rattle.planner_search.proofs.plan.find_plan.Goals as goal
@@ -20,10 +20,8 @@ returns-clause-found c = λ net q.
     let old = c.args.out.now in
     let starts = c.requires.starts net q in
     elim c.match-found.branch [
-      | in-Some w ↦ rw (w.found-is, w.out-is) (plan_found net c.args.start old _ _ w.in-Some.d (w.in-Some.ensures.met net q starts) (w.trace.ensures.traced net q))
-      | in_default w ↦
-          let e = w.found-is ∙ w.in_default.is in
-          rw (e, w.out-is) (nothing_found net c.args.start old (rw w.in_default.is at (c.find_layer-found.ensures.met net q starts)))
+      | in-Some w ↦ plan_found net c.args.start old _ _ _ _ _ w.found-is w.out-is (w.in-Some.ensures.met net q starts) (w.trace.ensures.traced net q)
+      | in_default w ↦ nothing_found net c.args.start old _ _ (w.found-is ∙ w.in_default.is) w.out-is (rw w.in_default.is at (c.find_layer-found.ensures.met net q starts))
     ]
 
 pub returns-clause-cleared : goal.returns-clause-cleared

@@ -8,7 +8,7 @@ use lib.Bits.{or_lt}
 use borrow.Author.Rules.{rules}
 use Rattle.std.specs.Prelude.{Option, None as none, Some as some, unwrap_or, IsSome}
 use Rattle.planner_rows.specs.Rows.{Lands}
-use Rattle.planner_rows.proofs.RowLaws.{landing_of, lands_of, listed_small, gain_read_small}
+use Rattle.planner_rows.proofs.RowLaws.{lands_of, listed_small, gain_read_small}
 use Rattle.planner_search.proofs.KeptWay.{tracing_start, tracing_within, tracing_step, tracing_end}
 use Rattle.planner_search.proofs.trace.trace.Goals as goal
 use Rattle.planner_search.proofs.trace.trace.Goals.{After-know_row, After-first_choice}
