@@ -9,6 +9,8 @@ use program_io::status::Status;
 const USAGE: &[u8] = b"usage: drawn\n\
     Prints what the programs print for the networks of document 01, each behind a title line.\n";
 
+// Not merged into its callers, whose own buffers would then be cleared twice.
+#[inline(never)]
 fn put_title(to: Program<'_>, title: &str, program: &str) -> bool {
     let mut line = Line::new();
     line.add(title.as_bytes());
