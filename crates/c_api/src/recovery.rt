@@ -7,6 +7,7 @@ ghost use Rattle.c_api.specs.Numbers.{count_numbers};
 ghost use Rattle.c_api.specs.Progress.{progress_in, progress_numbers, Alike, state_in};
 
 use crate::numbers::{count_numbers, progress_numbers};
+use clock_writer::State;
 use recover_line::{Progress, recover_end, recover_line};
 use recoverer::whole::recover_text;
 
@@ -14,10 +15,7 @@ use recoverer::whole::recover_text;
 fn state_of(number: usize) -> u8
     ensures { result ≡ state_in number }
 {
-    if 15 < number {
-        return 0;
-    }
-    number as u8
+    State::from_number(number).unwrap_or(State::TestLogicReset) as u8
 }
 
 // The progress of four numbers, or one that is answered alike.

@@ -66,10 +66,12 @@ pub fn find_line(text: &[u8], at: usize, guess: usize) -> Found
 {
     if guess < text.len() - at {
         let near = at + guess;
-        let behind = text[near];
         let clocks = count_clocks(&text[at..near]);
-        if clocks.is_some() && behind == b'\n' {
-            return Found { end: near, clocks };
+        if clocks.is_some() {
+            let behind = text[near];
+            if behind == b'\n' {
+                return Found { end: near, clocks };
+            }
         }
     }
     let end = far_end_of(text, at, b'\n');
