@@ -60,6 +60,7 @@ pub struct Found {
 }
 
 // The line from a place on. Lines are often as long as the one before: where that guess fits, its end need not be looked for.
+// The form is looked at before the byte behind it, which is the faster order (docs/DECISIONS.md).
 pub fn find_line(text: &[u8], at: usize, guess: usize) -> Found
     requires { at ≤ length text.now }
     ensures { IsFound text.now at result.end result.clocks }
