@@ -2,4 +2,5 @@
 pub mod PlayedLine
 pub mod PartLines
 pub mod OnePart
+pub mod PartListed
 pub mod WholeCall

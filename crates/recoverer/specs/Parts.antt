@@ -2,6 +2,7 @@
 -- Assumes nothing.
 use Rattle.std.specs.Prelude.{◌≡◌, ℕ, ◌≤◌, ◌<◌, length, take, drop, Result as Answer, Ok, Err, IfOk, OnOk}
 use Rattle.model.specs.Answers.{answer}
+use Rattle.model.specs.Refusals as refusal
 use Rattle.model.specs.Result.{Result, ok, refused}
 use Rattle.model.specs.Text.{Bytes, parts, ended, line_end}
 use Rattle.model.specs.declared.refusal.Refusal.{Refusal}
@@ -54,3 +55,10 @@ pub record DidPart (r : Result Progress) (text plan : Bytes) (r' : Result Progre
   pub short : held < max_line_bytes
   pub same_length : length text' ≡ length text
   pub as_long : length plan' ≡ length plan
+
+-- "each call ends with a result or one listed number and place": after a progress a refusal is 19, and a progress has a state of the controller where
+-- the one before had one; a refusal stays as it is
+abbrev pub ListedAfter : Result Progress → Result Progress → Type 0
+ListedAfter (ok p) (ok q) = p.state < 16 → q.state < 16
+ListedAfter (ok p) (refused number place) = number ≡ refusal.clock_line
+ListedAfter (refused number place) r = r ≡ refused number place

@@ -4,7 +4,7 @@ ghost use Rattle.model.specs.Answers.{answer};
 ghost use Rattle.model.specs.Limits.{max_plan_bytes};
 ghost use Rattle.recover_model.specs.RecoverCalls.{unless_long};
 ghost use Rattle.recover_line.specs.Progress.{progress_from};
-ghost use Rattle.recoverer.specs.Parts.{answer_numbered, FollowedPart, DidPart};
+ghost use Rattle.recoverer.specs.Parts.{answer_numbered, FollowedPart, DidPart, ListedAfter};
 
 use crate::lines::{Lines, recover_lines};
 use model::refusal::Refusal;
@@ -67,7 +67,8 @@ fn follow_part(
 // every plan, and is free after a refusal.
 pub fn recover_part(so_far: Result<Progress, Refused>, text: &mut [u8], plan: &mut [u8]) -> Recovery
     requires { max_plan_bytes ≤ length plan.old }
-    ensures { DidPart (answer_numbered progress_from so_far) text.old plan.old (answer_numbered progress_from result.answer) result.held text.new plan.new }
+    ensures did { DidPart (answer_numbered progress_from so_far) text.old plan.old (answer_numbered progress_from result.answer) result.held text.new plan.new }
+    ensures listed { ListedAfter (answer_numbered progress_from so_far) (answer_numbered progress_from result.answer) }
 {
     match follow_part(so_far, text, plan) {
         Ok(lines) => {
