@@ -73,6 +73,13 @@ module _ (ns : List ℕ) (t : Summary) (scan : Bytes) (k : ℕ) (size : PathSize
         let stops = found_stop net ns t.count t.out o.stored new.marking.bits new.marking.known r new.way found m q in
         record { tells = sym (op_walk net _ o stops); leaves = λ e. (op_loaded o, (m, stops)) }
 
+    pub op_told : Operates ns t scan k size old (told_as (λ m. record { kind = Configuration; place = k }) r) new
+    op_told = go r refl
+      where
+        go : (x : Answer PathSize ℕ) → r ≡ x → Operates ns t scan k size old (told_as (λ m. record { kind = Configuration; place = k }) x) new
+        go (Ok next) e = op_next next e
+        go (Err m) e = op_stop m e
+
 -- ---- the model's run, one operation on
 
 -- the rest of a run behind operations with the paths ps
