@@ -73,6 +73,7 @@ module _ (ns : List ℕ) (t : Summary) (scan : Bytes) (k : ℕ) (size : PathSize
         let stops = found_stop net ns t.count t.out o.stored new.marking.bits new.marking.known r new.way found m q in
         record { tells = sym (op_walk net _ o stops); leaves = λ e. (op_loaded o, (m, stops)) }
 
+    -- the one or the other, by the walk's answer
     pub op_told : Operates ns t scan k size old (told_as (λ m. record { kind = Configuration; place = k }) r) new
     op_told = go r refl
       where

@@ -1,4 +1,4 @@
--- What a part leaves: a progress in a state of the controller, or a listed number.
+-- What a part leaves: behind a progress one in a state of the controller, where it was in one, or 19; a refusal as it is.
 -- Assumes nothing.
 use mathlib.Core.Path.{◌≡◌, refl}
 use mathlib.Core.Bool.{Bool, true, false, cond, not}
@@ -19,39 +19,34 @@ use Rattle.recover_model.specs.Recover.{Follower, follow_clocks, if_followed}
 use Rattle.recover_model.specs.RecoverCalls.{Progress, progress_of, can_go_on, added_text, resumed, Step, step_over, step_line, recover_line, go_on, recover_lines, behind, unless_long, recover_part}
 use Rattle.recover_model.proofs.StepDone.{step_done, line_refused, line_stepped}
 use Rattle.clock_writer.proofs.Table.{numbered}
+use Rattle.recover_line.specs.Answers.{progress_after}
 use Rattle.recoverer.specs.Parts.{answer_before, ListedAfter}
 use Rattle.recoverer.proofs.PartLines.{line_as_long}
 
 -- ---- one line
 
--- a state of the controller, or 19
-abbrev Listed19 : {A : Type 0} → (A → ℕ) → Result A → Type 0
-Listed19 state (ok a) = state a < 16
-Listed19 state (refused number place) = number ≡ refusal.clock_line
+-- a progress in a state of the controller, or 19
+abbrev Listed19 : Result Progress → Type 0
+Listed19 (ok q) = q.state < 16
+Listed19 (refused number place) = number ≡ refusal.clock_line
 
-abbrev state_after : Step → ℕ
-state_after s = s.after.state
-
-abbrev state_of : Progress → ℕ
-state_of p = p.state
-
-step_listed : (p : Progress) (l : Bytes) → Listed19 state_after (step_line p l)
+step_listed : (p : Progress) (l : Bytes) → Listed19 (progress_after (step_line p l))
 unfolding step_line
-step_listed p l = refuse_case (Listed19 state_after) (not (can_go_on p)) _ _ _ (λ h. refl) (λ h. clocks (clk_line l))
+step_listed p l = refuse_case (λ (r : Result Step). Listed19 (progress_after r)) (not (can_go_on p)) _ _ _ (λ h. refl) (λ h. clocks (clk_line l))
   where
     followed : (cs : List Clock) (o : Option Follower)
-        → Listed19 state_after (if_followed (suc p.lines) (bind o (λ g. some (record { after = progress_of (suc p.lines) g; text = added_text (state_at p.state) cs }))) ok)
+        → Listed19 (progress_after (if_followed (suc p.lines) (bind o (λ g. some (record { after = progress_of (suc p.lines) g; text = added_text (state_at p.state) cs }))) ok))
     followed cs none = refl
     followed cs (some g) = (numbered g.state).0
 
-    clocks : (o : Option (List Clock)) → Listed19 state_after (if_followed (suc p.lines) (bind o (step_over p)) ok)
+    clocks : (o : Option (List Clock)) → Listed19 (progress_after (if_followed (suc p.lines) (bind o (step_over p)) ok))
     clocks none = refl
     clocks (some cs) = followed cs (follow_clocks (resumed p) cs)
 
-line_listed : (p : Progress) (l : Bytes) (plan : List ℕ) → max_plan_bytes ≤ length plan → Listed19 state_of (recover_line p l plan).result
+line_listed : (p : Progress) (l : Bytes) (plan : List ℕ) → max_plan_bytes ≤ length plan → Listed19 (recover_line p l plan).result
 line_listed p l plan room = go (step_line p l) refl (step_listed p l)
   where
-    go : (r : Result Step) → step_line p l ≡ r → Listed19 state_after r → Listed19 state_of (recover_line p l plan).result
+    go : (r : Result Step) → step_line p l ≡ r → Listed19 (progress_after r) → Listed19 (recover_line p l plan).result
     go (ok s) e k = rw (line_stepped p l plan s e (omega (arith, room, (step_done p l s e).short))) k
     go (refused number place) e k = rw (line_refused p l plan number place e) k
 
@@ -70,21 +65,21 @@ lines_listed (l ∷ ls) p plan room =
     go (recover_line p l plan).result refl later (line_listed p l plan room)
   where
     go : (r : Result Progress) → (recover_line p l plan).result ≡ r → ((q : Progress) → ListedAfter (ok q) (recover_lines q (recover_line p l plan).plan ls).result)
-        → Listed19 state_of r → ListedAfter (ok p) (go_on (recover_line p l plan) (λ q new. recover_lines q new ls)).result
+        → Listed19 r → ListedAfter (ok p) (go_on (recover_line p l plan) (λ q new. recover_lines q new ls)).result
     go (ok q) e later k = rw e (after_listed p q _ k (later q))
     go (refused number place) e later k = rw e k
 
 -- ---- a part
 
-stepped : (p : Progress) (r : Result Step) → Listed19 state_after r → ListedAfter (ok p) (and_then r (λ s. ok s.after))
-stepped p (ok s) k = λ h. k
-stepped p (refused number place) k = k
+listed_after : (p : Progress) (r : Result Progress) → Listed19 r → ListedAfter (ok p) r
+listed_after p (ok q) k = λ h. k
+listed_after p (refused number place) k = k
 
 unless_long_listed : (p q : Progress) (rest : Bytes) → ListedAfter (ok p) (ok q) → ListedAfter (ok p) (unless_long rest q)
 unless_long_listed p q rest k = go (leb max_line_bytes (length rest))
   where
-    go : (t : Bool) → ListedAfter (ok p) (cond t (and_then (step_line q rest) (λ s. ok s.after)) (ok q))
-    go true = stepped p (step_line q rest) (step_listed q rest)
+    go : (t : Bool) → ListedAfter (ok p) (cond t (progress_after (step_line q rest)) (ok q))
+    go true = listed_after p (progress_after (step_line q rest)) (step_listed q rest)
     go false = k
 
 pub part_listed : (r : Result Progress) (plan : List ℕ) (text : Bytes) → max_plan_bytes ≤ length plan
